@@ -1,0 +1,5 @@
+pub mod Bytes
+pub mod Rooms
+pub mod Values
+pub mod Modules
+pub mod Instructions
