@@ -1,0 +1,166 @@
+-- Parts of one kind, one after the other: n of them, or as many as a count in front says. Each may be judged by what stood before it.
+use mathlib.Core.Path.{_≡_, refl, sym, ap, _∙_, subst}
+use mathlib.Core.List.{List, [], _∷_, _++_, append-assoc}
+use mathlib.Core.Bool.{Bool, true, _&&_}
+use Prim.Native.Nat.{ℕ, zero, suc, _+_, _*_, _≤_}
+use native.Mathlib.Omega.{arith}
+use native.Mathlib.Nat.{mul-le-mul-right, suc-mul}
+use lib.Dec.{eqb}
+use lib.ListN.{length, length-append}
+use borrow.Author.Tests.{eqb-true, eq-eqb}
+use Rattle.codec.specs.Readings.{Reading, got, no, andThen, got-same, andThen-got}
+use Rattle.codec.specs.Codecs.{Codec, Bytes, AtMost, bytes-behind, and-left, and-right, and-both}
+use Rattle.codec.specs.Sequences.{dep, depPut, depGet, depOk}
+use Rattle.codec.specs.Views.{shape, viewPut, viewGet, viewOk}
+
+-- ---- n parts; s is what stood before the first, and `on` adds a part to it
+
+module _ {A S : Type 0} (c : S → Codec A) (on : S → A → S) where
+  abbrev pub runPut : S → List A → List ℕ
+  runPut s [] = []
+  runPut s (a ∷ xs) = c s .put a ++ runPut (on s a) xs
+
+  abbrev pub runGet : ℕ → S → List ℕ → Reading (List A)
+  runGet zero s bs = got [] bs
+  runGet (suc n) s bs = andThen (c s .get bs) (λ a r. andThen (runGet n (on s a) r) (λ xs t. got (a ∷ xs) t))
+
+  abbrev pub runOk : S → List A → Bool
+  runOk s [] = true
+  runOk s (a ∷ xs) = c s .ok a && runOk (on s a) xs
+
+  pub run-there : (n : ℕ) (s : S) (xs : List A) (r : List ℕ) → length xs ≡ n → runOk s xs ≡ true → runGet n s (runPut s xs ++ r) ≡ got xs r
+  run-there zero s [] r l h = refl
+  run-there zero s (a ∷ xs) r l h = absurd (omega arith)
+  run-there (suc n) s [] r l h = absurd (omega arith)
+  run-there (suc n) s (a ∷ xs) r l h =
+      rw (append-assoc, c s .there a (runPut (on s a) xs ++ r) (and-left _ _ h), run-there n (on s a) xs r (omega arith) (and-right (c s .ok a) _ h)) refl
+
+  pub run-back : (n : ℕ) (s : S) (bs : List ℕ) (xs : List A) (r : List ℕ) → Bytes bs → runGet n s bs ≡ got xs r
+      → (bs ≡ runPut s xs ++ r) × (length xs ≡ n) × (runOk s xs ≡ true)
+  run-back zero s bs xs r h e =
+      let (i, j) = got-same e in
+      subst (λ (y : List A). (bs ≡ runPut s y ++ r) × (length y ≡ 0) × (runOk s y ≡ true)) i (j, refl, refl)
+  run-back (suc n) s bs xs r h e =
+      let (a, t, p, q) = andThen-got (c s .get bs) _ e in
+      let (b, v, u, w) = andThen-got (runGet n (on s a) t) _ q in
+      let (i, j) = got-same w in
+      let m = c s .back bs a t h p in
+      let k = run-back n (on s a) t b v (bytes-behind (c s .put a) t (subst Bytes (m .0) h)) u in
+      subst (λ (y : List A). (bs ≡ runPut s y ++ r) × (length y ≡ suc n) × (runOk s y ≡ true)) i (
+        m .0 ∙ ap (λ (l : List ℕ). c s .put a ++ l) (k .0 ∙ ap (λ (l : List ℕ). runPut (on s a) b ++ l) j) ∙ sym (append-assoc (c s .put a) (runPut (on s a) b) r),
+        ap suc (k .1),
+        and-both (m .1) (k .2),
+      )
+
+  unfoldable pub run : S → ℕ → Codec (List A)
+  run s n =
+      record {
+        put = runPut s;
+        get = runGet n s;
+        ok = λ xs. eqb (length xs) n && runOk s xs;
+        there = λ xs r h. run-there n s xs r (eqb-true _ _ (and-left _ _ h)) (and-right (eqb (length xs) n) _ h);
+        back = λ bs xs r h e. let m = run-back n s bs xs r h e in (m .0, and-both (eq-eqb _ _ (m .1)) (m .2));
+      }
+
+  -- what is read as n parts is n parts
+  pub run-length : (n : ℕ) (s : S) (bs : List ℕ) {xs : List A} {r : List ℕ} → runGet n s bs ≡ got xs r → length xs ≡ n
+  run-length zero s bs {xs} e = let q : [] ≡ xs = cc in ap length (sym q)
+  run-length (suc n) s bs {xs} e =
+      let (a, t, p, q) = andThen-got (c s .get bs) _ e in
+      let (b, v, u, w) = andThen-got (runGet n (on s a) t) _ q in
+      let i : (a ∷ b) ≡ xs = cc in
+      ap length (sym i) ∙ ap suc (run-length n (on s a) t u)
+
+  runPut-room : {m : ℕ} → ((s : S) → AtMost m (c s)) → (s : S) (xs : List A) → runOk s xs ≡ true → length (runPut s xs) ≤ length xs * m
+  runPut-room f s [] h = omega arith
+  runPut-room {m} f s (a ∷ xs) h =
+      let p = f s .room a (and-left _ _ h) in
+      let q = runPut-room f (on s a) xs (and-right (c s .ok a) _ h) in
+      simp length-append (omega (arith, suc-mul (length xs) m))
+
+  -- ---- a count, and as many parts
+
+  module _ (count : Codec ℕ) (s : S) where
+    pub running-two : (x : (n : ℕ) × List A) → dep count (λ n. List A) (run s) .ok x ≡ true → _≡_ {A = (n : ℕ) × List A} (length (x .1), x .1) x
+    unfolding dep depOk run
+    running-two x h =
+        let l = eqb-true (length (x .1)) (x .0) (and-left _ _ (and-right (count .ok (x .0)) _ h)) in
+        λ i. (l i, x .1)
+
+    unfoldable pub running : Codec (List A)
+    unfolding shape dep run
+    running = shape (dep count (λ n. List A) (run s)) (λ xs. (length xs, xs)) (λ x. x .1) (λ xs. refl) running-two
+
+    pub running-no : {bs : List ℕ} {e : ℕ} → count .get bs ≡ no e → running .get bs ≡ no e
+    unfolding running viewGet depGet
+    running-no p = rw p refl
+
+    pub running-out : {bs r : List ℕ} {n e : ℕ} → count .get bs ≡ got n r → runGet n s r ≡ no e → running .get bs ≡ no e
+    unfolding running viewGet depGet
+    running-out p q = rw (p, q) refl
+
+    pub running-got : {bs r t : List ℕ} {n : ℕ} {xs : List A} → count .get bs ≡ got n r → runGet n s r ≡ got xs t → running .get bs ≡ got xs t
+    unfolding running viewGet depGet
+    running-got p q = rw (p, q) refl
+
+    pub running-ok : (xs : List A) → running .ok xs ≡ true → (count .ok (length xs) ≡ true) × (runOk s xs ≡ true)
+    unfolding running viewOk depOk
+    running-ok xs h = (and-left _ _ h, and-right (eqb (length xs) (length xs)) _ (and-right (count .ok (length xs)) _ h))
+
+    pub running-room : {k m : ℕ} (most : ℕ) → AtMost k count → ((n : ℕ) → count .ok n ≡ true → n ≤ most) → ((s : S) → AtMost m (c s)) → AtMost (k + most * m) running
+    unfolding running viewPut depPut
+    running-room {k} {m} most f g w =
+        record {
+          room = λ xs h.
+              let (p, q) = running-ok xs h in
+              let i = f .room (length xs) p in
+              let j = runPut-room w s xs q in
+              let l : length xs * m ≤ most * m = mul-le-mul-right m (g (length xs) p) in
+              simp length-append (omega arith);
+        }
+
+-- ---- parts that stand alone: nothing is kept of what stood before
+
+module _ {A : Type 0} (c : Codec A) where
+  abbrev pub manyPut : List A → List ℕ
+  manyPut xs = runPut {S = Unit {0}} (λ s. c) (λ s a. s) tt xs
+
+  abbrev pub manyGet : ℕ → List ℕ → Reading (List A)
+  manyGet n bs = runGet {S = Unit {0}} (λ s. c) (λ s a. s) n tt bs
+
+  abbrev pub manyOk : List A → Bool
+  manyOk xs = runOk {S = Unit {0}} (λ s. c) (λ s a. s) tt xs
+
+  -- n parts
+  unfoldable pub many : ℕ → Codec (List A)
+  unfolding run
+  many n = run {S = Unit {0}} (λ s. c) (λ s a. s) tt n
+
+  pub many-length : (n : ℕ) (bs : List ℕ) {xs : List A} {r : List ℕ} → manyGet n bs ≡ got xs r → length xs ≡ n
+  many-length n bs e = run-length {S = Unit {0}} (λ s. c) (λ s a. s) n tt bs e
+
+-- a count, and as many parts
+module _ {A : Type 0} (count : Codec ℕ) (c : Codec A) where
+  unfoldable pub list : Codec (List A)
+  unfolding running
+  list = running {S = Unit {0}} (λ s. c) (λ s a. s) count tt
+
+  pub list-no : {bs : List ℕ} {e : ℕ} → count .get bs ≡ no e → list .get bs ≡ no e
+  unfolding list
+  list-no p = running-no {S = Unit {0}} (λ s. c) (λ s a. s) count tt p
+
+  pub list-out : {bs r : List ℕ} {n e : ℕ} → count .get bs ≡ got n r → manyGet c n r ≡ no e → list .get bs ≡ no e
+  unfolding list
+  list-out p q = running-out {S = Unit {0}} (λ s. c) (λ s a. s) count tt p q
+
+  pub list-got : {bs r t : List ℕ} {n : ℕ} {xs : List A} → count .get bs ≡ got n r → manyGet c n r ≡ got xs t → list .get bs ≡ got xs t
+  unfolding list
+  list-got p q = running-got {S = Unit {0}} (λ s. c) (λ s a. s) count tt p q
+
+  pub list-ok : (xs : List A) → list .ok xs ≡ true → (count .ok (length xs) ≡ true) × (manyOk c xs ≡ true)
+  unfolding list
+  list-ok xs h = running-ok {S = Unit {0}} (λ s. c) (λ s a. s) count tt xs h
+
+  pub list-room : {k m : ℕ} (most : ℕ) → AtMost k count → ((n : ℕ) → count .ok n ≡ true → n ≤ most) → AtMost m c → AtMost (k + most * m) list
+  unfolding list
+  list-room most f g w = running-room {S = Unit {0}} (λ s. c) (λ s a. s) count tt most f g (λ s. w)

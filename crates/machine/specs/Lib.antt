@@ -1,0 +1,6 @@
+pub mod Words
+pub mod Boards
+pub mod Instructions
+pub mod Store
+pub mod Calls
+pub mod Answers

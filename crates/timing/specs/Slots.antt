@@ -1,0 +1,62 @@
+-- Slots (document 01, 'What time does'): an activity of frequency f has f slots of period/f. When slots begin and end is said here and nowhere else.
+use Prim.Native.Nat.{ℕ, zero, suc, _+_, _*_, _/_, min}
+use mathlib.Core.Bool.{Bool, true, false, cond, _||_, _&&_}
+use mathlib.Core.List.{List, [], _∷_}
+use lib.Dec.{eqb, leb, ltb}
+use Rattle.model.specs.Modules.{Act}
+
+-- A stretch of a mode's period.
+pub record Span : Type 0 where
+  pub from : ℕ
+  pub to : ℕ
+
+-- The slots of one length from the i-th on.
+abbrev pub slotsFrom : ℕ → ℕ → ℕ → List Span
+slotsFrom size zero i = []
+slotsFrom size (suc n) i = record { from = i * size; to = (i + 1) * size } ∷ slotsFrom size n (i + 1)
+
+-- The slots of an activity in a mode of this period.
+unfoldable pub spans : {A : Type 0} → ℕ → Act A → List Span
+spans period act = slotsFrom (period / act .frequency) (act .frequency) 0
+
+abbrev pub anyOf : (Span → Bool) → List Span → Bool
+anyOf test [] = false
+anyOf test (span ∷ rest) = test span || anyOf test rest
+
+-- At time t of a mode of this period, a slot ends; begins; is in force from t on; began before t and ends after it.
+abbrev pub endsAt : {A : Type 0} → ℕ → ℕ → Act A → Bool
+endsAt period t act = anyOf (λ span. eqb t (span .to)) (spans period act)
+
+abbrev pub beginsAt : {A : Type 0} → ℕ → ℕ → Act A → Bool
+beginsAt period t act = anyOf (λ span. eqb t (span .from)) (spans period act)
+
+abbrev pub liveAt : {A : Type 0} → ℕ → ℕ → Act A → Bool
+liveAt period t act = anyOf (λ span. leb (span .from) t && ltb t (span .to)) (spans period act)
+
+abbrev pub amidAt : {A : Type 0} → ℕ → ℕ → Act A → Bool
+amidAt period t act = anyOf (λ span. ltb (span .from) t && ltb t (span .to)) (spans period act)
+
+-- The first slot end after t of a list of slots, of an activity, of activities; n where that is sooner.
+abbrev pub sooner : ℕ → ℕ → ℕ → ℕ
+sooner t instant n = cond (ltb t instant) (min n instant) n
+
+abbrev pub nextOn : ℕ → List Span → ℕ → ℕ
+nextOn t [] n = n
+nextOn t (span ∷ rest) n = nextOn t rest (sooner t (span .to) n)
+
+abbrev pub soonest : {A : Type 0} → ℕ → ℕ → List (Act A) → ℕ → ℕ
+soonest period t [] n = n
+soonest period t (act ∷ acts) n = soonest period t acts (nextOn t (spans period act) n)
+
+abbrev pub keep : {A : Type 0} → (A → Bool) → List A → List A
+keep test [] = []
+keep test (a ∷ rest) =
+    let others = keep test rest in
+    cond (test a) (a ∷ others) others
+
+-- The activities of which a slot ends, or begins, at time t.
+abbrev pub closing : {A : Type 0} → ℕ → ℕ → List (Act A) → List (Act A)
+closing period t acts = keep (endsAt period t) acts
+
+abbrev pub opening : {A : Type 0} → ℕ → ℕ → List (Act A) → List (Act A)
+opening period t acts = keep (beginsAt period t) acts
