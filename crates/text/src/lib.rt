@@ -79,8 +79,15 @@ pub struct Port {
 
 // A value as it is written. `at` is where it starts, a minus included.
 pub enum Literal {
-    Truth { at: usize, yes: bool },
-    Number { at: usize, digits: Name, minus: bool },
+    Truth {
+        at: usize,
+        yes: bool,
+    },
+    Number {
+        at: usize,
+        digits: Name,
+        minus: bool,
+    },
     Named(Name),
 }
 
@@ -115,25 +122,66 @@ pub enum State {
 pub enum Item {
     Module(Name),
     Section,
-    Constant { name: Name, value: Literal },
-    Sensor { typ: Name, name: Name, getter: Name },
-    Actuator { typ: Name, name: Name, value: Literal, setter: Name },
+    Constant {
+        name: Name,
+        value: Literal,
+    },
+    Sensor {
+        typ: Name,
+        name: Name,
+        getter: Name,
+    },
+    Actuator {
+        typ: Name,
+        name: Name,
+        value: Literal,
+        setter: Name,
+    },
     TaskBegin(Name),
-    Input { typ: Name, name: Name },
-    Output { typ: Name, name: Name, value: Literal },
+    Input {
+        typ: Name,
+        name: Name,
+    },
+    Output {
+        typ: Name,
+        name: Name,
+        value: Literal,
+    },
     TaskEnd(Name),
-    ModeBegin { start: bool, at: usize, name: Name, digits: Name, milli: bool },
-    Activity { kind: u8, at: usize, digits: Name },
-    Guard { name: Name, count: usize },
+    ModeBegin {
+        start: bool,
+        at: usize,
+        name: Name,
+        digits: Name,
+        milli: bool,
+    },
+    Activity {
+        kind: u8,
+        at: usize,
+        digits: Name,
+    },
+    Guard {
+        name: Name,
+        count: usize,
+    },
     GuardArg(Port),
-    Invoke { task: Name, count: usize },
+    Invoke {
+        task: Name,
+        count: usize,
+    },
     Arg(Port),
-    Update { actuator: Name, source: Port },
+    Update {
+        actuator: Name,
+        source: Port,
+    },
     Switch(Name),
     ModeEnd,
     ModuleEnd,
     End,
-    No { number: u8, at: usize },
+    No {
+        number: u8,
+        at: usize,
+    },
 }
 
 // An item, the state behind it and the place behind it.
