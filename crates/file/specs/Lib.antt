@@ -1,1 +1,9 @@
 pub mod Tables
+pub mod Parts
+pub mod Names
+pub mod Records
+pub mod Code
+pub mod References
+pub mod Files
+pub mod Opened
+pub mod Cases

@@ -3,4 +3,5 @@ pub mod Boards
 pub mod Instructions
 pub mod Store
 pub mod Calls
+pub mod Starts
 pub mod Answers
