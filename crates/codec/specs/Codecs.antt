@@ -26,6 +26,9 @@ pub record AtMost {A : Type 0} (n : ℕ) (c : Codec A) : Type 0 where
 
 -- ---- laws
 
+pub at-most : {A : Type 0} {m n : ℕ} {c : Codec A} → m ≤ n → AtMost m c → AtMost n c
+at-most l f = record { room = λ a h. let p = f .room a h in omega arith }
+
 pub bytes-behind : (p r : List ℕ) → Bytes (p ++ r) → Bytes r
 bytes-behind p r h i = subst (λ (x : ℕ). x < 256) (getD-append-add p r i 0) (h (length p + i))
 

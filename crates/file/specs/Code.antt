@@ -16,8 +16,9 @@ use Rattle.codec.specs.Tags.{enum, numbered}
 use Rattle.codec.specs.Lists.{list}
 use Rattle.model.specs.Rooms.{portRoom, argumentRoom, driverRoom, guardRoom, modeRoom, codeRoom, periodRoom}
 use Rattle.model.specs.Instructions.{Instr, nop, future, call, release, iff, jump, return, switch, Driver, updates, releases, terminates}
+use Rattle.text.specs.Words.{within}
 use Rattle.file.specs.Tables.{Argument, port, fixed, GuardRow, ModeRow}
-use Rattle.file.specs.Parts.{within, count, type, value}
+use Rattle.file.specs.Parts.{count, type, value}
 use Rattle.file.specs.Names.{name}
 
 -- ---- drivers (3 source port, actuator port; 4 task, count, source ports; 5 task; numbers two bytes)

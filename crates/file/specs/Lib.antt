@@ -7,3 +7,5 @@ pub mod References
 pub mod Files
 pub mod Opened
 pub mod Cases
+pub mod Sizes
+pub mod RoundTrips

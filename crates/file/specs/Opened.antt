@@ -6,8 +6,9 @@ use Rattle.codec.specs.Tags.{enum}
 use Rattle.codec.specs.Lists.{run, running, many, list}
 use Rattle.model.specs.Bytes.{same, placeIn}
 use Rattle.model.specs.Modules.{portTypes}
+use Rattle.text.specs.Words.{keywords}
 use Rattle.file.specs.Parts.{allIn, count, type, value}
-use Rattle.file.specs.Names.{keywords, nameBytes, isKeyword, goodName, name}
+use Rattle.file.specs.Names.{nameBytes, isKeyword, goodName, name}
 use Rattle.file.specs.Records.{sensor, sensors, actuator, actuators, output, portCount, task, tasks}
 use Rattle.file.specs.Code.{driverRest, driver, drivers, argumentRest, argument, guard, guards, mode, modes, word, triple, instruction, code}
 use Rattle.file.specs.References.{portRoles, takes, goodDriver, functionTakes, goodGuard, goodInstruction, goodReferences}

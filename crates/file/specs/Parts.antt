@@ -8,10 +8,6 @@ use Rattle.codec.specs.Numbers.{byte, be}
 use Rattle.codec.specs.Views.{check}
 use Rattle.model.specs.Values.{fitsType}
 
--- from low to high
-abbrev pub within : ℕ → ℕ → ℕ → Bool
-within low high n = leb low n && leb n high
-
 -- every one passes
 unfoldable pub allIn : {A : Type 0} → (A → Bool) → List A → Bool
 allIn test [] = true

@@ -23,18 +23,31 @@ abbrev pub anyOf : (Span → Bool) → List Span → Bool
 anyOf test [] = false
 anyOf test (span ∷ rest) = test span || anyOf test rest
 
--- At time t of a mode of this period, a slot ends; begins; is in force from t on; began before t and ends after it.
+-- At time t a slot ends; begins; is in force from t on; began before t and ends after it.
+abbrev pub spanEnds : ℕ → Span → Bool
+spanEnds t span = eqb t (span .to)
+
+abbrev pub spanBegins : ℕ → Span → Bool
+spanBegins t span = eqb t (span .from)
+
+abbrev pub spanLive : ℕ → Span → Bool
+spanLive t span = leb (span .from) t && ltb t (span .to)
+
+abbrev pub spanAmid : ℕ → Span → Bool
+spanAmid t span = ltb (span .from) t && ltb t (span .to)
+
+-- So of an activity, at time t of a mode of this period.
 abbrev pub endsAt : {A : Type 0} → ℕ → ℕ → Act A → Bool
-endsAt period t act = anyOf (λ span. eqb t (span .to)) (spans period act)
+endsAt period t act = anyOf (spanEnds t) (spans period act)
 
 abbrev pub beginsAt : {A : Type 0} → ℕ → ℕ → Act A → Bool
-beginsAt period t act = anyOf (λ span. eqb t (span .from)) (spans period act)
+beginsAt period t act = anyOf (spanBegins t) (spans period act)
 
 abbrev pub liveAt : {A : Type 0} → ℕ → ℕ → Act A → Bool
-liveAt period t act = anyOf (λ span. leb (span .from) t && ltb t (span .to)) (spans period act)
+liveAt period t act = anyOf (spanLive t) (spans period act)
 
 abbrev pub amidAt : {A : Type 0} → ℕ → ℕ → Act A → Bool
-amidAt period t act = anyOf (λ span. ltb (span .from) t && ltb t (span .to)) (spans period act)
+amidAt period t act = anyOf (spanAmid t) (spans period act)
 
 -- The first slot end after t of a list of slots, of an activity, of activities; n where that is sooner.
 abbrev pub sooner : ℕ → ℕ → ℕ → ℕ

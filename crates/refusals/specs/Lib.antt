@@ -1,0 +1,12 @@
+pub mod Checks
+pub mod Names
+pub mod Refusals
+pub mod Values
+pub mod Declarations
+pub mod Ports
+pub mod Activities
+pub mod Draft
+pub mod Rules
+pub mod Texts
+pub mod Reading
+pub mod Cases
