@@ -8,10 +8,10 @@ use native.Mathlib.Nat.{mul-le-mul-right, suc-mul}
 use lib.Dec.{eqb}
 use lib.ListN.{length, length-append}
 use borrow.Author.Tests.{eqb-true, eq-eqb}
-use Rattle.codec.specs.Readings.{Reading, got, no, andThen, got-same, andThen-got}
-use Rattle.codec.specs.Codecs.{Codec, Bytes, AtMost, bytes-behind, and-left, and-right, and-both}
-use Rattle.codec.specs.Sequences.{dep, depPut, depGet, depOk}
-use Rattle.codec.specs.Views.{shape, viewPut, viewGet, viewOk}
+use Rattle.codec.specs.Readings.{Reading, got, no, andThen, got-same, andThen-got, andThen-no}
+use Rattle.codec.specs.Codecs.{Codec, Bytes, AtMost, Refuses, no-bytes, bytes-both, bytes-behind, and-left, and-right, and-both}
+use Rattle.codec.specs.Sequences.{dep, depPut, depGet, depOk, dep-refuses}
+use Rattle.codec.specs.Views.{shape, viewPut, viewGet, viewOk, shape-refuses}
 
 -- ---- n parts; s is what stood before the first, and `on` adds a part to it
 
@@ -34,6 +34,10 @@ module _ {A S : Type 0} (c : S → Codec A) (on : S → A → S) where
   run-there (suc n) s [] r l h = absurd (omega arith)
   run-there (suc n) s (a ∷ xs) r l h =
       rw (append-assoc, c s .there a (runPut (on s a) xs ++ r) (and-left _ _ h), run-there n (on s a) xs r (omega arith) (and-right (c s .ok a) _ h)) refl
+
+  pub run-whole : (s : S) (xs : List A) → runOk s xs ≡ true → Bytes (runPut s xs)
+  run-whole s [] h = no-bytes
+  run-whole s (a ∷ xs) h = bytes-both (c s .whole a (and-left _ _ h)) (run-whole (on s a) xs (and-right (c s .ok a) _ h))
 
   pub run-back : (n : ℕ) (s : S) (bs : List ℕ) (xs : List A) (r : List ℕ) → Bytes bs → runGet n s bs ≡ got xs r
       → (bs ≡ runPut s xs ++ r) × (length xs ≡ n) × (runOk s xs ≡ true)
@@ -59,6 +63,7 @@ module _ {A S : Type 0} (c : S → Codec A) (on : S → A → S) where
         get = runGet n s;
         ok = λ xs. eqb (length xs) n && runOk s xs;
         there = λ xs r h. run-there n s xs r (eqb-true _ _ (and-left _ _ h)) (and-right (eqb (length xs) n) _ h);
+        whole = λ xs h. run-whole s xs (and-right (eqb (length xs) n) _ h);
         back = λ bs xs r h e. let m = run-back n s bs xs r h e in (m .0, and-both (eq-eqb _ _ (m .1)) (m .2));
       }
 
@@ -77,6 +82,16 @@ module _ {A S : Type 0} (c : S → Codec A) (on : S → A → S) where
       let p = f s .room a (and-left _ _ h) in
       let q = runPut-room f (on s a) xs (and-right (c s .ok a) _ h) in
       simp length-append (omega (arith, suc-mul (length xs) m))
+
+  runGet-refuses : (P : ℕ → Type 0) → ((s : S) → Refuses P (c s)) → (n : ℕ) (s : S) (bs : List ℕ) (e : ℕ) → runGet n s bs ≡ no e → P e
+  runGet-refuses P f zero s bs e p = absurd (let z : _≡_ {A = ℕ} 0 1 = cc in omega arith)
+  runGet-refuses P f (suc n) s bs e p =
+      andThen-no P (c s .get bs) _ (f s .number bs)
+      (λ a r. andThen-no P (runGet n (on s a) r) _ (runGet-refuses P f n (on s a) r) (λ xs t k q. absurd (let z : _≡_ {A = ℕ} 0 1 = cc in omega arith))) e p
+
+  run-refuses : {P : ℕ → Type 0} → ((s : S) → Refuses P (c s)) → (s : S) (n : ℕ) → Refuses P (run s n)
+  unfolding run
+  run-refuses {P} f s n = record { number = runGet-refuses P f n s }
 
   -- ---- a count, and as many parts
 
@@ -102,6 +117,10 @@ module _ {A S : Type 0} (c : S → Codec A) (on : S → A → S) where
     pub running-got : {bs r t : List ℕ} {n : ℕ} {xs : List A} → count .get bs ≡ got n r → runGet n s r ≡ got xs t → running .get bs ≡ got xs t
     unfolding running viewGet depGet
     running-got p q = rw (p, q) refl
+
+    pub running-refuses : {P : ℕ → Type 0} → Refuses P count → ((s : S) → Refuses P (c s)) → Refuses P running
+    unfolding running
+    running-refuses f g = shape-refuses _ (λ xs. (length xs, xs)) (λ x. x .1) (λ xs. refl) running-two (dep-refuses count _ _ f (run-refuses g s))
 
     pub running-ok : (xs : List A) → running .ok xs ≡ true → (count .ok (length xs) ≡ true) × (runOk s xs ≡ true)
     unfolding running viewOk depOk
@@ -156,6 +175,10 @@ module _ {A : Type 0} (count : Codec ℕ) (c : Codec A) where
   pub list-got : {bs r t : List ℕ} {n : ℕ} {xs : List A} → count .get bs ≡ got n r → manyGet c n r ≡ got xs t → list .get bs ≡ got xs t
   unfolding list
   list-got p q = running-got {S = Unit {0}} (λ s. c) (λ s a. s) count tt p q
+
+  pub list-refuses : {P : ℕ → Type 0} → Refuses P count → Refuses P c → Refuses P list
+  unfolding list
+  list-refuses f g = running-refuses {S = Unit {0}} (λ s. c) (λ s a. s) count tt f (λ s. g)
 
   pub list-ok : (xs : List A) → list .ok xs ≡ true → (count .ok (length xs) ≡ true) × (manyOk c xs ≡ true)
   unfolding list

@@ -5,13 +5,13 @@ use mathlib.Core.Bool.{true}
 use Prim.Native.Nat.{ℕ, zero, suc, _+_, _*_, _-_, _/_, _%_, _^_, _≤_, _<_}
 use native.Mathlib.Omega.{arith}
 use native.Mathlib.Numerals.{towards-suc, add-one}
-use native.Mathlib.Nat.{one-le-pow, mul-le-mul-right, suc-mul, mod-lt, div-add-mod', mul-add-div-right, mul-add-mod-self-right, mod-eq-of-lt, div-eq-of-lt, add-zero, pow-succ', le-refl, le-of-eq}
+use native.Mathlib.Nat.{one-le-pow, mul-le-mul-right, suc-mul, mod-lt, div-add-mod', mul-add-div-right, mul-add-mod-self-right, mod-eq-of-lt, div-eq-of-lt, add-zero, pow-succ', div-lt-iff-lt-mul, le-refl, le-of-eq}
 use lib.Dec.{ltb}
 use lib.ListN.{length, getD, drop, length-drop}
 use lib.Seq.{drop-cons}
 use borrow.Author.Tests.{ltb-true, lt-ltb}
-use Rattle.codec.specs.Readings.{Reading, got, no, andThen, got-same, andThen-got}
-use Rattle.codec.specs.Codecs.{Codec, Bytes, AtMost, bytes-behind}
+use Rattle.codec.specs.Readings.{Reading, got, no, andThen, got-same, andThen-got, andThen-no}
+use Rattle.codec.specs.Codecs.{Codec, Bytes, AtMost, Refuses, no-bytes, bytes-both, bytes-behind}
 
 -- ---- one byte
 
@@ -24,15 +24,31 @@ unfolding byteGet
 byte-back [] a r h e = absurd (let z : _≡_ {A = ℕ} 0 1 = cc in omega arith)
 byte-back (b ∷ s) a r h e =
     let (p, q) = got-same e in
-    (cc, lt-ltb a 256 (subst (λ (y : ℕ). y < 256) p (h 0)))
+    (cc, lt-ltb a 256 (subst (λ (y : ℕ). y < 256) p (h .below 0)))
+
+pub byte-whole : (n : ℕ) → ltb n 256 ≡ true → Bytes (n ∷ [])
+byte-whole n h = record { below = go }
+  where
+    go : (i : ℕ) → getD (n ∷ []) i 0 < 256
+    go zero = ltb-true n 256 h
+    go (suc i) = omega arith
 
 unfoldable pub byte : Codec ℕ
 unfolding byteGet
-byte = record { put = λ n. n ∷ []; get = byteGet; ok = λ n. ltb n 256; there = λ a r h. refl; back = byte-back }
+byte = record { put = λ n. n ∷ []; get = byteGet; ok = λ n. ltb n 256; there = λ a r h. refl; whole = byte-whole; back = byte-back }
 
 pub byte-room : AtMost 1 byte
 unfolding byte
 byte-room = record { room = λ a h. le-refl 1 }
+
+byteGet-refuses : (P : ℕ → Type 0) → P 22 → (bs : List ℕ) (e : ℕ) → byteGet bs ≡ no e → P e
+unfolding byteGet
+byteGet-refuses P h [] e p = let q : 22 ≡ e = cc in subst P q h
+byteGet-refuses P h (b ∷ bs) e p = absurd (let z : _≡_ {A = ℕ} 0 1 = cc in omega arith)
+
+pub byte-refuses : {P : ℕ → Type 0} → P 22 → Refuses P byte
+unfolding byte
+byte-refuses {P} h = record { number = byteGet-refuses P h }
 
 -- the byte at a place of a text
 pub byte-at : (s : List ℕ) (at : ℕ) → at < length s → byte .get (drop at s) ≡ got (getD s at 0) (drop (at + 1) s)
@@ -83,6 +99,12 @@ be-back (suc k) bs n r h e =
       rw pow-succ' (below high (256 ^ k) low (ltb-true _ _ (m .1)) (w .1)),
     )
 
+pub be-whole : (k n : ℕ) → n < 256 ^ k → Bytes (bePut k n)
+be-whole zero n h = no-bytes
+be-whole (suc k) n h =
+    bytes-both (byte-whole (n / 256 ^ k) (lt-ltb _ _ (div-lt-iff-lt-mul (pow-pos k) .1 (rw (← pow-succ') h))))
+    (be-whole k (n % 256 ^ k) (mod-lt n (pow-pos k)))
+
 unfoldable pub be : ℕ → Codec ℕ
 be k =
     record {
@@ -90,6 +112,7 @@ be k =
       get = beGet k;
       ok = λ n. ltb n (256 ^ k);
       there = λ n r h. be-there k n r (ltb-true _ _ h);
+      whole = λ n h. be-whole k n (ltb-true _ _ h);
       back = λ bs n r h e. let m = be-back k bs n r h e in (m .0, lt-ltb _ _ (m .1));
     }
 
@@ -103,6 +126,16 @@ be-length k n = bePut-length k n
 
 pub be-room : (k : ℕ) → AtMost k (be k)
 be-room k = record { room = λ n h. le-of-eq (be-length k n) }
+
+beGet-refuses : (P : ℕ → Type 0) → P 22 → (k : ℕ) (bs : List ℕ) (e : ℕ) → beGet k bs ≡ no e → P e
+beGet-refuses P h zero bs e p = absurd (let z : _≡_ {A = ℕ} 0 1 = cc in omega arith)
+beGet-refuses P h (suc k) bs e p =
+    andThen-no P (byteGet bs) _ (byteGet-refuses P h bs)
+    (λ high r. andThen-no P (beGet k r) _ (beGet-refuses P h k r) (λ low s f q. absurd (let z : _≡_ {A = ℕ} 0 1 = cc in omega arith))) e p
+
+pub be-refuses : {P : ℕ → Type 0} → P 22 → (k : ℕ) → Refuses P (be k)
+unfolding be
+be-refuses {P} h k = record { number = beGet-refuses P h k }
 
 pub be-ok : (k n : ℕ) → n < 256 ^ k → be k .ok n ≡ true
 unfolding be

@@ -1,5 +1,5 @@
 -- What reading a part of a file comes to.
-use mathlib.Core.Path.{_≡_, refl}
+use mathlib.Core.Path.{_≡_, refl, ap, subst}
 use mathlib.Core.List.{List}
 use mathlib.Core.Option.{Option, none, some}
 use Prim.Native.Nat.{ℕ}
@@ -30,6 +30,16 @@ pub andThen-got : {A B : Type 0} (m : Reading A) (go : A → List ℕ → Readin
     → andThen m go ≡ got b r → (a : A) × (s : List ℕ) × (m ≡ got a s) × (go a s ≡ got b r)
 andThen-got (got a s) go e = (a, s, refl, e)
 andThen-got (no n) go e = absurd (let z : _≡_ {A = ℕ} 0 1 = cc in omega arith)
+
+-- a refusal in the end is one of the first step or of the second
+pub andThen-no : {A B : Type 0} (P : ℕ → Type 0) (m : Reading A) (go : A → List ℕ → Reading B)
+    → ((e : ℕ) → m ≡ no e → P e) → ((a : A) (r : List ℕ) (e : ℕ) → go a r ≡ no e → P e) → (e : ℕ) → andThen m go ≡ no e → P e
+andThen-no P (got a r) go f g e p = g a r e p
+andThen-no P (no n) go f g e p = let q : n ≡ e = cc in f e (ap no q)
+
+pub orNo-no : {A : Type 0} (P : ℕ → Type 0) (n : ℕ) (o : Option A) (r : List ℕ) → P n → (e : ℕ) → orNo n o r ≡ no e → P e
+orNo-no P n none r h e p = let q : n ≡ e = cc in subst P q h
+orNo-no P n (some a) r h e p = absurd (let z : _≡_ {A = ℕ} 0 1 = cc in omega arith)
 
 pub orNo-got : {A : Type 0} (e : ℕ) (o : Option A) (s : List ℕ) {a : A} {r : List ℕ} → orNo e o s ≡ got a r → (o ≡ some a) × (s ≡ r)
 orNo-got e none s p = absurd (let z : _≡_ {A = ℕ} 0 1 = cc in omega arith)

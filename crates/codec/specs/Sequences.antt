@@ -5,8 +5,8 @@ use mathlib.Core.Bool.{Bool, true, _&&_}
 use Prim.Native.Nat.{ℕ, _+_, _≤_}
 use native.Mathlib.Omega.{arith}
 use lib.ListN.{length, length-append}
-use Rattle.codec.specs.Readings.{Reading, got, no, andThen, got-same, andThen-got}
-use Rattle.codec.specs.Codecs.{Codec, Bytes, AtMost, bytes-behind, and-left, and-right, and-both}
+use Rattle.codec.specs.Readings.{Reading, got, no, andThen, got-same, andThen-got, andThen-no}
+use Rattle.codec.specs.Codecs.{Codec, Bytes, AtMost, Refuses, bytes-both, bytes-behind, and-left, and-right, and-both}
 
 module _ {A : Type 0} (c : Codec A) (P : A → Type 0) (d : (a : A) → Codec (P a)) where
   unfoldable pub depPut : (a : A) × P a → List ℕ
@@ -23,6 +23,10 @@ module _ {A : Type 0} (c : Codec A) (P : A → Type 0) (d : (a : A) → Codec (P
   dep-there x r h =
       rw (append-assoc, c .there (x .0) (d (x .0) .put (x .1) ++ r) (and-left _ _ h), d (x .0) .there (x .1) r (and-right (c .ok (x .0)) _ h)) refl
 
+  pub dep-whole : (x : (a : A) × P a) → depOk x ≡ true → Bytes (depPut x)
+  unfolding depPut depOk
+  dep-whole x h = bytes-both (c .whole (x .0) (and-left _ _ h)) (d (x .0) .whole (x .1) (and-right (c .ok (x .0)) _ h))
+
   pub dep-back : (bs : List ℕ) (x : (a : A) × P a) (r : List ℕ) → Bytes bs → depGet bs ≡ got x r → (bs ≡ depPut x ++ r) × (depOk x ≡ true)
   unfolding depPut depOk depGet
   dep-back bs x r h e =
@@ -38,7 +42,7 @@ module _ {A : Type 0} (c : Codec A) (P : A → Type 0) (d : (a : A) → Codec (P
 
   unfoldable pub dep : Codec ((a : A) × P a)
   unfolding depPut depGet depOk
-  dep = record { put = depPut; get = depGet; ok = depOk; there = dep-there; back = dep-back }
+  dep = record { put = depPut; get = depGet; ok = depOk; there = dep-there; whole = dep-whole; back = dep-back }
 
   -- ---- how it is read
 
@@ -53,6 +57,15 @@ module _ {A : Type 0} (c : Codec A) (P : A → Type 0) (d : (a : A) → Codec (P
   pub dep-got : {bs r s : List ℕ} {a : A} {b : P a} → c .get bs ≡ got a r → d a .get r ≡ got b s → dep .get bs ≡ got (a, b) s
   unfolding dep depGet
   dep-got p q = rw (p, q) refl
+
+  pub dep-refuses : {Q : ℕ → Type 0} → Refuses Q c → ((a : A) → Refuses Q (d a)) → Refuses Q dep
+  unfolding dep depGet
+  dep-refuses {Q} f g =
+      record {
+        number = λ bs.
+            andThen-no Q (c .get bs) _ (f .number bs)
+            (λ a r. andThen-no Q (d a .get r) _ (g a .number r) (λ b s e p. absurd (let z : _≡_ {A = ℕ} 0 1 = cc in omega arith)));
+      }
 
   -- ---- what can stand there, and its room
 

@@ -5,8 +5,8 @@ use mathlib.Core.Bool.{Bool, true, false, _&&_}
 use mathlib.Core.Option.{Option, none, some}
 use Prim.Native.Nat.{ℕ}
 use native.Mathlib.Omega.{arith}
-use Rattle.codec.specs.Readings.{Reading, got, no, andThen, orNo, andThen-got, orNo-got}
-use Rattle.codec.specs.Codecs.{Codec, Bytes, AtMost, and-left, and-right, and-both}
+use Rattle.codec.specs.Readings.{Reading, got, no, andThen, orNo, andThen-got, andThen-no, orNo-got, orNo-no}
+use Rattle.codec.specs.Codecs.{Codec, Bytes, AtMost, Refuses, and-left, and-right, and-both}
 
 -- ---- B stands as A; where what stands is no B, the refusal is e
 
@@ -26,6 +26,10 @@ module _ {A B : Type 0} (c : Codec A) (e : ℕ) (to : B → A) (from : A → Opt
   unfolding viewPut viewOk viewGet
   view-there b r h = rw (c .there (to b) r (and-right (fit b) _ h), sees b (and-left _ _ h)) refl
 
+  pub view-whole : (b : B) → viewOk c to fit b ≡ true → Bytes (viewPut c to b)
+  unfolding viewPut viewOk
+  view-whole b h = c .whole (to b) (and-right (fit b) _ h)
+
   pub view-back : (bs : List ℕ) (b : B) (r : List ℕ) → Bytes bs → viewGet c e from bs ≡ got b r → (bs ≡ viewPut c to b ++ r) × (viewOk c to fit b ≡ true)
   unfolding viewPut viewOk viewGet
   view-back bs b r h p =
@@ -37,11 +41,15 @@ module _ {A B : Type 0} (c : Codec A) (e : ℕ) (to : B → A) (from : A → Opt
 
   unfoldable pub view : Codec B
   unfolding viewPut viewGet viewOk
-  view = record { put = viewPut c to; get = viewGet c e from; ok = viewOk c to fit; there = view-there; back = view-back }
+  view = record { put = viewPut c to; get = viewGet c e from; ok = viewOk c to fit; there = view-there; whole = view-whole; back = view-back }
 
   pub view-room : {n : ℕ} → AtMost n c → AtMost n view
   unfolding view viewPut viewOk
   view-room f = record { room = λ b h. f .room (to b) (and-right (fit b) _ h) }
+
+  pub view-refuses : {P : ℕ → Type 0} → P e → Refuses P c → Refuses P view
+  unfolding view viewGet
+  view-refuses {P} h f = record { number = λ bs. andThen-no P (c .get bs) _ (f .number bs) (λ a r. orNo-no P e (from a) r h) }
 
 -- ---- a part that must pass a test, or the refusal is e
 
@@ -81,6 +89,10 @@ module _ {A : Type 0} (c : Codec A) (e : ℕ) (test : A → Bool) where
   unfolding check
   check-room f = view-room c e _ _ test (λ a h. rw h) check-same f
 
+  pub check-refuses : {P : ℕ → Type 0} → P e → Refuses P c → Refuses P check
+  unfolding check
+  check-refuses h f = view-refuses c e _ _ test (λ a p. rw p) check-same h f
+
 -- ---- the same under another shape, as a record for a tuple; the way back and forth need hold only for what can stand in a file
 
 module _ {A B : Type 0} (c : Codec A) (to : B → A) (from : A → B) (one : (b : B) → from (to b) ≡ b) (two : (a : A) → c .ok a ≡ true → to (from a) ≡ a) where
@@ -101,6 +113,11 @@ module _ {A B : Type 0} (c : Codec A) (to : B → A) (from : A → B) (one : (b 
   pub shape-got : {bs r : List ℕ} {a : A} → c .get bs ≡ got a r → shape .get bs ≡ got (from a) r
   unfolding shape viewGet
   shape-got p = rw p refl
+
+  pub shape-refuses : {P : ℕ → Type 0} → Refuses P c → Refuses P shape
+  unfolding shape viewGet
+  shape-refuses {P} f =
+      record { number = λ bs. andThen-no P (c .get bs) _ (f .number bs) (λ a r e p. absurd (let z : _≡_ {A = ℕ} 0 1 = cc in omega arith)) }
 
   pub shape-ok : (b : B) → shape .ok b ≡ true → c .ok (to b) ≡ true
   unfolding shape viewOk

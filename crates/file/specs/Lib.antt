@@ -9,3 +9,6 @@ pub mod Opened
 pub mod Cases
 pub mod Sizes
 pub mod RoundTrips
+pub mod Answers
+pub mod Refusals
+pub mod Returned

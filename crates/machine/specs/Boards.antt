@@ -77,5 +77,5 @@ boardOf t =
       starts = padded boardRoom 0 (portStarts (t .sensors) (t .actuators) (t .tasks));
       lots = padded taskRoom noLot (lotsFrom (length (t .sensors) + length (t .actuators)) (t .tasks));
       sensors = length (t .sensors);
-      start = startFrom 0 (t .modes)
+      start = startFrom 0 (t .modes);
     }

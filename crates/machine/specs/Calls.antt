@@ -49,8 +49,15 @@ pub record Finished : Type 0 where
 abbrev pub stoppedBy : ℕ → ℕ → State → State
 stoppedBy fault task m =
     record {
-      clock = m .clock; remaining = m .remaining; mode = m .mode; pc = m .pc; store = m .store; aside = m .aside;
-      stopped = true; fault = fault; late = task
+      clock = m .clock;
+      remaining = m .remaining;
+      mode = m .mode;
+      pc = m .pc;
+      store = m .store;
+      aside = m .aside;
+      stopped = true;
+      fault = fault;
+      late = task;
     }
 
 abbrev pub faulted : E.Fault → State → Ticked
@@ -64,9 +71,16 @@ cameTo m count tally (ok halt) =
     record {
       answer = Obeyed (tally .steps);
       state = record {
-        clock = count; remaining = halt .future .delay; mode = halt .mode; pc = halt .future .pc; store = halt .store; aside = m .aside;
-        stopped = m .stopped; fault = m .fault; late = m .late
-      }
+        clock = count;
+        remaining = halt .future .delay;
+        mode = halt .mode;
+        pc = halt .future .pc;
+        store = halt .store;
+        aside = m .aside;
+        stopped = m .stopped;
+        fault = m .fault;
+        late = m .late;
+      };
     }
 cameTo m count tally (bad fault) = faulted fault m
 
@@ -90,8 +104,15 @@ resultTypes b task = part (b .types) (lotOf b [] task .outputs) (lotOf b [] task
 abbrev pub idled : State → ℕ → ℕ → State
 idled m count left =
     record {
-      clock = count; remaining = left; mode = m .mode; pc = m .pc; store = m .store; aside = m .aside;
-      stopped = m .stopped; fault = m .fault; late = m .late
+      clock = count;
+      remaining = left;
+      mode = m .mode;
+      pc = m .pc;
+      store = m .store;
+      aside = m .aside;
+      stopped = m .stopped;
+      fault = m .fault;
+      late = m .late;
     }
 
 abbrev pub byInstant : Board → State → ℕ → List ℕ → Instant → Ticked
@@ -110,8 +131,15 @@ tick b m count types words =
 abbrev pub withWords : State → Store → List ℕ → State
 withWords m store aside =
     record {
-      clock = m .clock; remaining = m .remaining; mode = m .mode; pc = m .pc; store = store; aside = aside;
-      stopped = m .stopped; fault = m .fault; late = m .late
+      clock = m .clock;
+      remaining = m .remaining;
+      mode = m .mode;
+      pc = m .pc;
+      store = store;
+      aside = aside;
+      stopped = m .stopped;
+      fault = m .fault;
+      late = m .late;
     }
 
 abbrev pub handedOut : State → Option ℕ → Handed
@@ -119,7 +147,7 @@ handedOut m none = record { answer = T.Nobody; state = m }
 handedOut m (some task) =
     record {
       answer = T.Task task;
-      state = withWords m (record { ports = m .store .ports; out = m .store .out; waiting = parted (m .store .waiting) task; finished = m .store .finished }) (m .aside)
+      state = withWords m (record { ports = m .store .ports; out = m .store .out; waiting = parted (m .store .waiting) task; finished = m .store .finished }) (m .aside);
     }
 
 unfoldable pub nextTask : State → Handed

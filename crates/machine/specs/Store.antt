@@ -37,7 +37,7 @@ module _ (b : Board) (aside : List ℕ) where
         ports = place (lotOf task .outputs) (part aside (task * portRoom) (lotOf task .results)) (s .ports);
         out = parted (s .out) task;
         waiting = s .waiting;
-        finished = parted (s .finished) task
+        finished = parted (s .finished) task;
       })
 
   abbrev pub withPorts : Store → List ℕ → Store
@@ -68,7 +68,7 @@ module _ (b : Board) (aside : List ℕ) where
         test = λ guard s. holds (s .ports) (getD (b .guards) guard noGuard);
         drive = λ driver s. driven (driverAt driver) s;
         begin = λ task s. released task s (has (s .out) task);
-        ending = λ driver s. endingBy (driverAt driver) s
+        ending = λ driver s. endingBy (driverAt driver) s;
       }
 
   -- One reaction from an instruction on: at most as many instructions as the code holds.

@@ -27,19 +27,23 @@ from at = got 0 at at
 unfoldable pub refusal : Lexed → Got
 refusal lexed = got (cond (is T.Bad lexed) 2 3) (lexed .start) (lexed .start)
 
+-- the next token where it may stand, else its refusal
+abbrev pub allow : Bool → Lexed → Got → Got
+allow allowed next g =
+    let fine = cond allowed (got 0 (next .start) (next .end)) (refusal next) in
+    cond (eqb (g .bad) 0) fine g
+
 -- the next token, which must be t
 unfoldable pub want : Token → List ℕ → Got → Got
 want t s g =
     let next = tokenAt s (g .end) in
-    let fine = cond (is t next) (got 0 (next .start) (next .end)) (refusal next) in
-    cond (eqb (g .bad) 0) fine g
+    allow (is t next) next g
 
 -- the next token, whichever it is, but not the end
 unfoldable pub wantAny : List ℕ → Got → Got
 wantAny s g =
     let next = tokenAt s (g .end) in
-    let fine = cond (ltb (codeOf (next .token)) (codeOf T.End)) (got 0 (next .start) (next .end)) (refusal next) in
-    cond (eqb (g .bad) 0) fine g
+    allow (ltb (codeOf (next .token)) (codeOf T.End)) next g
 
 -- whether the bytes from start up to end are a word
 abbrev pub spells : List ℕ → ℕ → ℕ → List ℕ → Bool

@@ -1,0 +1,25 @@
+use lib.Seq.{set-out}
+use denote.Ref.{now}
+use mathlib.Core.Path.{sym}
+use native.Mathlib.Omega.{arith}
+use borrow.Author.Needs.{needs}
+use Rattle.cells.proofs.put32.Statement.{statement}
+use Rattle.cells.proofs.put32.Tie as tie
+
+mul-cells : tie.Need-mul-cells
+mul-cells c = search needs
+
+slice-write-cells : tie.Need-slice-write-cells
+slice-write-cells c = search needs
+
+same-length : tie.Need-same-length
+same-length c = search needs
+
+returns : tie.Need-returns
+returns c = search needs
+
+returns-2 : tie.Need-returns-2
+returns-2 c = sym (set-out (now (c .before .args .cells)) (c .before .args .i) (c .before .args .number) (omega arith))
+
+pub put32-spec : {M : Type 1} → statement M
+put32-spec = tie.close (tie.spec mul-cells slice-write-cells same-length returns returns-2)

@@ -1,0 +1,4 @@
+pub mod Tables
+pub mod Compiles
+pub mod Answers
+pub mod Bench
