@@ -4,4 +4,6 @@ pub mod Boards
 pub mod Instructions
 pub mod Store
 pub mod Calls
+pub mod Starts
 pub mod Answers
+pub mod Cases

@@ -4,3 +4,4 @@ pub mod Values
 pub mod Clock
 pub mod Modules
 pub mod Instructions
+pub mod Cases

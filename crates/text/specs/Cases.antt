@@ -55,6 +55,15 @@ cases =
     refused 3 "module M {//\r}#" ∷
     refused 3 "//\rx#" ∷
     refused 3 "//\n#x" ∷
+    refused 3 "/**/#x" ∷
+    refused 3 "/***/#x" ∷
+    refused 3 "/*/ */#x" ∷
+    refused 3 "/* * / /* **/#x" ∷
+    refused 3 " \t\r\n#x" ∷
+    refused 2 "#/* *" ∷
+    refused 2 "module M { #\u{b} }" ∷
+    refused 2 "module M { #\0 }" ∷
+    refused 2 "module M { #+ }" ∷
     refused 2 "module M {#: = }" ∷
     refused 2 "#:module M { }" ∷
     refused 2 "module M { #/ }" ∷
@@ -88,10 +97,30 @@ cases =
     refused 2 "module #$ {" ∷
     refused 3 "module M { task t { uses f; } start mode m [period=1us] { task [freq=1] t#; } }" ∷
     refused 3 "module M { start mode m [#5ms] { } }" ∷
-    refused 3 "module M { start mode m [period=5#] { } }" ∷
     refused 3 "module M { actuator int a #uses f; }" ∷
     refused 3 "module M { sensor int s#; }" ∷
     refused 3 "module M { const a = 1; a = 2; b = zzz; } #}" ∷
+    refused 3 "module M { task t { #init int i; uses f; } }" ∷
+    refused 3 "module M { const #as = 1; }" ∷
+    refused 3 "module M { const #asynchronous = 1; }" ∷
+    refused 3 "module M { #import N; }" ∷
+    refused 3 "module M { const #state = 1; }" ∷
+    refused 3 "module M { const #struct = 1; }" ∷
+    refused 3 "module M { start #x }" ∷
+    refused 3 "module M { start mode m [period=1us] { #[freq=1] t(); } }" ∷
+    refused 3 "module M { } #}" ∷
+    refused 3 "module M { start mode m [period=1us] { actuator #task } }" ∷
+    refused 3 "module M { start mode m [period=1us] { mode #actuator } }" ∷
+    refused 3 "module M { task t { output #input int i; uses f; } }" ∷
+    refused 3 "module M { task t { #} }" ∷
+    refused 3 "module M { mode m [period=1us] { task [freq=1] t(s,#); } }" ∷
+    refused 3 "module M { mode m [period=1us] { task [freq=1] t(#,s); } }" ∷
+    refused 3 "module M { mode m [period=1us] { task [freq=1] t(s #s); } }" ∷
+    refused 3 "module M { mode m [period=1us] { mode [freq=1] if f(s) #m; } }" ∷
+    refused 3 "module M { start mode m [period=1us] { } #task t { uses f; } }" ∷
+    refused 3 "module M { const a = 1 #b = 2; }" ∷
+    refused 3 "module M { start mode m [period=5#ns] { } }" ∷
+    passes "module _m1 { const a_1 = 5; _ = a_1; start mode m[period=1us]{}}" ∷
     passes "module M { const a = - /**/ 5; start mode m [period=1us] { } }" ∷
     passes "module M { const const sensor actuator actuator start mode m [period=1us] { task task actuator mode mode } }" ∷
     passes "module M { task t { input int t; output int o := 1; uses f; } start mode m [period=1us] { } }" ∷

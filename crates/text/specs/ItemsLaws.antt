@@ -3,16 +3,18 @@ use Prim.Native.Nat.{ℕ, zero, suc, _+_, _-_, _≤_, _<_}
 use mathlib.Core.Path.{_≡_, refl, sym, ap, _∙_}
 use mathlib.Core.List.{List, [], _∷_}
 use mathlib.Core.Bool.{Bool, true, false}
-use mathlib.Core.Option.{Option, none}
+use mathlib.Core.Option.{Option, none, some}
 use native.Mathlib.Omega.{arith}
 use lib.ListN.{length}
 use Rattle.text.specs.declared.State.{State}
+use Rattle.text.specs.declared.State.the-variants as Q
 use Rattle.text.specs.declared.Item.{Item}
 use Rattle.text.specs.declared.Item.the-variants as I
 use Rattle.text.specs.declared.ReadItem.{ReadItem}
-use Rattle.text.specs.Items.{itemAt, goes, itemsIn, itemsFrom, Refusal, refuse, refusedOr, refusedIn}
+use Rattle.text.specs.Items.{itemAt, goes, itemsIn, itemsFrom, Refusal, refuse, refusedOr, refusedIn, syntaxOf}
 use Rattle.text.specs.PartsLaws.{unsaid}
-use Rattle.text.specs.Advance.{item-ahead}
+use Rattle.text.specs.ExpectLaws.{Refused}
+use Rattle.text.specs.Advance.{item-ahead, item-no}
 
 module _ (fuel : ℕ) (s : List ℕ) (state : State) (at : ℕ) where
   in-on : goes (itemAt s state at .item) ≡ true → itemsIn (suc fuel) s state at ≡ itemAt s state at .item ∷ itemsIn fuel s (itemAt s state at .state) (itemAt s state at .next)
@@ -87,3 +89,56 @@ module _ (s : List ℕ) (state : State) (at : ℕ) (r : ReadItem) (h : at ≤ le
   pub turn-no : (number offset : ℕ) → r .item ≡ I.No number offset → refusedIn (itemsFrom s state at) ≡ refuse number offset
   unfolding refusedIn
   turn-no number offset e = let g : itemAt s state at .item ≡ I.No number offset = rw p at e in rw (from-stop s state at h (rw g), g)
+
+-- ---- the whole text
+
+-- a refusal as an item
+abbrev asItem : Option Refusal → Item
+asItem none = I.End
+asItem (some refusal) = I.No (refusal .number) (refusal .offset)
+
+-- an item that does not go on, and refuses, is that refusal
+stops : (item : Item) (number offset : ℕ) → goes item ≡ false → refusedOr item none ≡ refuse number offset → item ≡ I.No number offset
+stops (I.Module name) number offset g e = absurd (unsaid (sym g))
+stops I.Section number offset g e = absurd (unsaid (sym g))
+stops (I.Constant name value) number offset g e = absurd (unsaid (sym g))
+stops (I.Sensor typ name getter) number offset g e = absurd (unsaid (sym g))
+stops (I.Actuator typ name value setter) number offset g e = absurd (unsaid (sym g))
+stops (I.TaskBegin name) number offset g e = absurd (unsaid (sym g))
+stops (I.Input typ name) number offset g e = absurd (unsaid (sym g))
+stops (I.Output typ name value) number offset g e = absurd (unsaid (sym g))
+stops (I.TaskEnd name) number offset g e = absurd (unsaid (sym g))
+stops (I.ModeBegin start at name digits milli) number offset g e = absurd (unsaid (sym g))
+stops (I.Activity kind at digits) number offset g e = absurd (unsaid (sym g))
+stops (I.Guard name count) number offset g e = absurd (unsaid (sym g))
+stops (I.GuardArg port) number offset g e = absurd (unsaid (sym g))
+stops (I.Invoke task count) number offset g e = absurd (unsaid (sym g))
+stops (I.Arg port) number offset g e = absurd (unsaid (sym g))
+stops (I.Update actuator source) number offset g e = absurd (unsaid (sym g))
+stops (I.Switch name) number offset g e = absurd (unsaid (sym g))
+stops I.ModeEnd number offset g e = absurd (unsaid (sym g))
+stops I.ModuleEnd number offset g e = absurd (unsaid (sym g))
+stops I.End number offset g e = let z : _≡_ {A = ℕ} 0 1 = cc in absurd (omega arith)
+stops (I.No n at) number offset g e = ap asItem e
+
+module _ (s : List ℕ) (number offset : ℕ) where
+  in-none : (state : State) (at : ℕ) → refusedIn (itemsIn zero s state at) ≡ none
+  unfolding refusedIn itemsIn
+  in-none state at = refl
+
+  -- a refusal that items from a place on give is 2 or 3, at or behind the place and inside the text
+  in-refused : (fuel : ℕ) (state : State) (at : ℕ) → at ≤ length s → refusedIn (itemsIn fuel s state at) ≡ refuse number offset → Refused at (length s) number offset
+  unfolding refusedIn
+  in-refused zero state at h e = let n = in-none state at in let z : _≡_ {A = ℕ} 0 1 = cc in absurd (omega arith)
+  in-refused (suc fuel) state at h e = by (goes (itemAt s state at .item)) refl (λ n w. in-refused fuel _ _ n w)
+    where
+      by : (b : Bool) → goes (itemAt s state at .item) ≡ b → (itemAt s state at .next ≤ length s → refusedIn (itemsIn fuel s (itemAt s state at .state) (itemAt s state at .next)) ≡ refuse number offset → Refused (itemAt s state at .next) (length s) number offset) → Refused at (length s) number offset
+      by false g on = item-no s state at h number offset (stops (itemAt s state at .item) number offset g (rw (in-stop fuel s state at g) at e))
+      by true g on =
+          let a = item-ahead s state at h g in
+          let w = rw (in-on fuel s state at g) at e in
+          let r = on (a .1) (sym (passes (itemAt s state at .item) _ g) ∙ w) in
+          omega arith
+
+  pub syntax-refused : syntaxOf s ≡ refuse number offset → Refused 0 (length s) number offset
+  syntax-refused e = in-refused _ Q.Begin 0 (omega arith) e

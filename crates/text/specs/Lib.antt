@@ -5,8 +5,10 @@ pub mod WordsLaws
 pub mod Tokens
 pub mod EachEntry
 pub mod KeyTable
+pub mod StartsLaws
 pub mod TokensLaws
 pub mod Expect
+pub mod WantLaws
 pub mod ExpectLaws
 pub mod Productions
 pub mod CountLaws
@@ -17,3 +19,4 @@ pub mod ProductionsLaws
 pub mod Advance
 pub mod ItemsLaws
 pub mod Cases
+pub mod ItemCases
