@@ -21,18 +21,15 @@ pub record Codec (A : Type 0) : Type 0 where
   pub whole : (a : A) → ok a ≡ true → Bytes (put a)  -- what is written is bytes
   pub back : (bs : List ℕ) (a : A) (r : List ℕ) → Bytes bs → get bs ≡ got a r → (bs ≡ put a ++ r) × (ok a ≡ true)  -- writing undoes reading
 
--- no value that can stand in a file takes more than n bytes
-pub record AtMost {A : Type 0} (n : ℕ) (c : Codec A) : Type 0 where
+-- no value that can stand in a file takes more than n bytes, and reading refuses with no other numbers than those of P
+pub record Bounded {A : Type 0} (P : ℕ → Type 0) (n : ℕ) (c : Codec A) : Type 0 where
   pub room : (a : A) → c .ok a ≡ true → length (c .put a) ≤ n
-
--- reading it refuses with no other numbers than these
-pub record Refuses {A : Type 0} (P : ℕ → Type 0) (c : Codec A) : Type 0 where
   pub number : (bs : List ℕ) (e : ℕ) → c .get bs ≡ no e → P e
 
 -- ---- laws
 
-pub at-most : {A : Type 0} {m n : ℕ} {c : Codec A} → m ≤ n → AtMost m c → AtMost n c
-at-most l f = record { room = λ a h. let p = f .room a h in omega arith }
+pub bounded-up : {A : Type 0} {P : ℕ → Type 0} {m n : ℕ} {c : Codec A} → m ≤ n → Bounded P m c → Bounded P n c
+bounded-up l f = record { room = λ a h. let p = f .room a h in omega arith; number = f .number }
 
 bytes-joined : (p r : List ℕ) → ((i : ℕ) → getD p i 0 < 256) → ((i : ℕ) → getD r i 0 < 256) → (i : ℕ) → getD (p ++ r) i 0 < 256
 bytes-joined [] r h g i = g i

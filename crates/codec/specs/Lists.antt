@@ -9,9 +9,9 @@ use lib.Dec.{eqb}
 use lib.ListN.{length, length-append}
 use borrow.Author.Tests.{eqb-true, eq-eqb}
 use Rattle.codec.specs.Readings.{Reading, got, no, andThen, got-same, andThen-got, andThen-no}
-use Rattle.codec.specs.Codecs.{Codec, Bytes, AtMost, Refuses, no-bytes, bytes-both, bytes-behind, and-left, and-right, and-both}
-use Rattle.codec.specs.Sequences.{dep, depPut, depGet, depOk, dep-refuses}
-use Rattle.codec.specs.Views.{shape, viewPut, viewGet, viewOk, shape-refuses}
+use Rattle.codec.specs.Codecs.{Codec, Bytes, Bounded, no-bytes, bytes-both, bytes-behind, and-left, and-right, and-both}
+use Rattle.codec.specs.Sequences.{dep, depPut, depGet, depOk}
+use Rattle.codec.specs.Views.{shape, viewPut, viewGet, viewOk}
 
 -- ---- n parts; s is what stood before the first, and `on` adds a part to it
 
@@ -76,22 +76,18 @@ module _ {A S : Type 0} (c : S → Codec A) (on : S → A → S) where
       let i : (a ∷ b) ≡ xs = cc in
       ap length (sym i) ∙ ap suc (run-length n (on s a) t u)
 
-  runPut-room : {m : ℕ} → ((s : S) → AtMost m (c s)) → (s : S) (xs : List A) → runOk s xs ≡ true → length (runPut s xs) ≤ length xs * m
+  runPut-room : {P : ℕ → Type 0} {m : ℕ} → ((s : S) → Bounded P m (c s)) → (s : S) (xs : List A) → runOk s xs ≡ true → length (runPut s xs) ≤ length xs * m
   runPut-room f s [] h = omega arith
-  runPut-room {m} f s (a ∷ xs) h =
+  runPut-room {P} {m} f s (a ∷ xs) h =
       let p = f s .room a (and-left _ _ h) in
       let q = runPut-room f (on s a) xs (and-right (c s .ok a) _ h) in
       simp length-append (omega (arith, suc-mul (length xs) m))
 
-  runGet-refuses : (P : ℕ → Type 0) → ((s : S) → Refuses P (c s)) → (n : ℕ) (s : S) (bs : List ℕ) (e : ℕ) → runGet n s bs ≡ no e → P e
-  runGet-refuses P f zero s bs e p = absurd (let z : _≡_ {A = ℕ} 0 1 = cc in omega arith)
-  runGet-refuses P f (suc n) s bs e p =
+  runGet-refuses : {P : ℕ → Type 0} {m : ℕ} → ((s : S) → Bounded P m (c s)) → (n : ℕ) (s : S) (bs : List ℕ) (e : ℕ) → runGet n s bs ≡ no e → P e
+  runGet-refuses f zero s bs e p = absurd (let z : _≡_ {A = ℕ} 0 1 = cc in omega arith)
+  runGet-refuses {P} f (suc n) s bs e p =
       andThen-no P (c s .get bs) _ (f s .number bs)
-      (λ a r. andThen-no P (runGet n (on s a) r) _ (runGet-refuses P f n (on s a) r) (λ xs t k q. absurd (let z : _≡_ {A = ℕ} 0 1 = cc in omega arith))) e p
-
-  run-refuses : {P : ℕ → Type 0} → ((s : S) → Refuses P (c s)) → (s : S) (n : ℕ) → Refuses P (run s n)
-  unfolding run
-  run-refuses {P} f s n = record { number = runGet-refuses P f n s }
+      (λ a r. andThen-no P (runGet n (on s a) r) _ (runGet-refuses f n (on s a) r) (λ xs t k q. absurd (let z : _≡_ {A = ℕ} 0 1 = cc in omega arith))) e p
 
   -- ---- a count, and as many parts
 
@@ -118,17 +114,14 @@ module _ {A S : Type 0} (c : S → Codec A) (on : S → A → S) where
     unfolding running viewGet depGet
     running-got p q = rw (p, q) refl
 
-    pub running-refuses : {P : ℕ → Type 0} → Refuses P count → ((s : S) → Refuses P (c s)) → Refuses P running
-    unfolding running
-    running-refuses f g = shape-refuses _ (λ xs. (length xs, xs)) (λ x. x .1) (λ xs. refl) running-two (dep-refuses count _ _ f (run-refuses g s))
-
     pub running-ok : (xs : List A) → running .ok xs ≡ true → (count .ok (length xs) ≡ true) × (runOk s xs ≡ true)
     unfolding running viewOk depOk
     running-ok xs h = (and-left _ _ h, and-right (eqb (length xs) (length xs)) _ (and-right (count .ok (length xs)) _ h))
 
-    pub running-room : {k m : ℕ} (most : ℕ) → AtMost k count → ((n : ℕ) → count .ok n ≡ true → n ≤ most) → ((s : S) → AtMost m (c s)) → AtMost (k + most * m) running
-    unfolding running viewPut depPut
-    running-room {k} {m} most f g w =
+    pub running-bounded : {P : ℕ → Type 0} {k m : ℕ} (most : ℕ) → Bounded P k count → ((n : ℕ) → count .ok n ≡ true → n ≤ most) → ((s : S) → Bounded P m (c s))
+        → Bounded P (k + most * m) running
+    unfolding running viewPut viewGet depPut depGet
+    running-bounded {P} {k} {m} most f g w =
         record {
           room = λ xs h.
               let (p, q) = running-ok xs h in
@@ -136,6 +129,11 @@ module _ {A S : Type 0} (c : S → Codec A) (on : S → A → S) where
               let j = runPut-room w s xs q in
               let l : length xs * m ≤ most * m = mul-le-mul-right m (g (length xs) p) in
               simp length-append (omega arith);
+          number = λ bs.
+              andThen-no P (depGet count (λ n. List A) (run s) bs) _
+              (andThen-no P (count .get bs) _ (f .number bs)
+              (λ n r. andThen-no P (runGet n s r) _ (runGet-refuses w n s r) (λ xs t e p. absurd (let z : _≡_ {A = ℕ} 0 1 = cc in omega arith))))
+              (λ x r e p. absurd (let z : _≡_ {A = ℕ} 0 1 = cc in omega arith));
         }
 
 -- ---- parts that stand alone: nothing is kept of what stood before
@@ -176,14 +174,10 @@ module _ {A : Type 0} (count : Codec ℕ) (c : Codec A) where
   unfolding list
   list-got p q = running-got {S = Unit {0}} (λ s. c) (λ s a. s) count tt p q
 
-  pub list-refuses : {P : ℕ → Type 0} → Refuses P count → Refuses P c → Refuses P list
-  unfolding list
-  list-refuses f g = running-refuses {S = Unit {0}} (λ s. c) (λ s a. s) count tt f (λ s. g)
-
   pub list-ok : (xs : List A) → list .ok xs ≡ true → (count .ok (length xs) ≡ true) × (manyOk c xs ≡ true)
   unfolding list
   list-ok xs h = running-ok {S = Unit {0}} (λ s. c) (λ s a. s) count tt xs h
 
-  pub list-room : {k m : ℕ} (most : ℕ) → AtMost k count → ((n : ℕ) → count .ok n ≡ true → n ≤ most) → AtMost m c → AtMost (k + most * m) list
+  pub list-bounded : {P : ℕ → Type 0} {k m : ℕ} (most : ℕ) → Bounded P k count → ((n : ℕ) → count .ok n ≡ true → n ≤ most) → Bounded P m c → Bounded P (k + most * m) list
   unfolding list
-  list-room most f g w = running-room {S = Unit {0}} (λ s. c) (λ s a. s) count tt most f g (λ s. w)
+  list-bounded most f g w = running-bounded {S = Unit {0}} (λ s. c) (λ s a. s) count tt most f g (λ s. w)

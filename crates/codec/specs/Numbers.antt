@@ -11,7 +11,7 @@ use lib.ListN.{length, getD, drop, length-drop}
 use lib.Seq.{drop-cons}
 use borrow.Author.Tests.{ltb-true, lt-ltb}
 use Rattle.codec.specs.Readings.{Reading, got, no, andThen, got-same, andThen-got, andThen-no}
-use Rattle.codec.specs.Codecs.{Codec, Bytes, AtMost, Refuses, no-bytes, bytes-both, bytes-behind}
+use Rattle.codec.specs.Codecs.{Codec, Bytes, Bounded, no-bytes, bytes-both, bytes-behind}
 
 -- ---- one byte
 
@@ -37,18 +37,14 @@ unfoldable pub byte : Codec ℕ
 unfolding byteGet
 byte = record { put = λ n. n ∷ []; get = byteGet; ok = λ n. ltb n 256; there = λ a r h. refl; whole = byte-whole; back = byte-back }
 
-pub byte-room : AtMost 1 byte
-unfolding byte
-byte-room = record { room = λ a h. le-refl 1 }
-
 byteGet-refuses : (P : ℕ → Type 0) → P 22 → (bs : List ℕ) (e : ℕ) → byteGet bs ≡ no e → P e
 unfolding byteGet
 byteGet-refuses P h [] e p = let q : 22 ≡ e = cc in subst P q h
 byteGet-refuses P h (b ∷ bs) e p = absurd (let z : _≡_ {A = ℕ} 0 1 = cc in omega arith)
 
-pub byte-refuses : {P : ℕ → Type 0} → P 22 → Refuses P byte
+pub byte-bounded : {P : ℕ → Type 0} → P 22 → Bounded P 1 byte
 unfolding byte
-byte-refuses {P} h = record { number = byteGet-refuses P h }
+byte-bounded {P} h = record { room = λ a g. le-refl 1; number = byteGet-refuses P h }
 
 -- the byte at a place of a text
 pub byte-at : (s : List ℕ) (at : ℕ) → at < length s → byte .get (drop at s) ≡ got (getD s at 0) (drop (at + 1) s)
@@ -124,18 +120,15 @@ pub be-length : (k n : ℕ) → length (be k .put n) ≡ k
 unfolding be
 be-length k n = bePut-length k n
 
-pub be-room : (k : ℕ) → AtMost k (be k)
-be-room k = record { room = λ n h. le-of-eq (be-length k n) }
-
 beGet-refuses : (P : ℕ → Type 0) → P 22 → (k : ℕ) (bs : List ℕ) (e : ℕ) → beGet k bs ≡ no e → P e
 beGet-refuses P h zero bs e p = absurd (let z : _≡_ {A = ℕ} 0 1 = cc in omega arith)
 beGet-refuses P h (suc k) bs e p =
     andThen-no P (byteGet bs) _ (byteGet-refuses P h bs)
     (λ high r. andThen-no P (beGet k r) _ (beGet-refuses P h k r) (λ low s f q. absurd (let z : _≡_ {A = ℕ} 0 1 = cc in omega arith))) e p
 
-pub be-refuses : {P : ℕ → Type 0} → P 22 → (k : ℕ) → Refuses P (be k)
+pub be-bounded : {P : ℕ → Type 0} → P 22 → (k : ℕ) → Bounded P k (be k)
 unfolding be
-be-refuses {P} h k = record { number = beGet-refuses P h k }
+be-bounded {P} h k = record { room = λ n g. le-of-eq (bePut-length k n); number = beGet-refuses P h k }
 
 pub be-ok : (k n : ℕ) → n < 256 ^ k → be k .ok n ≡ true
 unfolding be

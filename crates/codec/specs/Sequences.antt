@@ -6,7 +6,7 @@ use Prim.Native.Nat.{ℕ, _+_, _≤_}
 use native.Mathlib.Omega.{arith}
 use lib.ListN.{length, length-append}
 use Rattle.codec.specs.Readings.{Reading, got, no, andThen, got-same, andThen-got, andThen-no}
-use Rattle.codec.specs.Codecs.{Codec, Bytes, AtMost, Refuses, bytes-both, bytes-behind, and-left, and-right, and-both}
+use Rattle.codec.specs.Codecs.{Codec, Bytes, Bounded, bytes-both, bytes-behind, and-left, and-right, and-both}
 
 module _ {A : Type 0} (c : Codec A) (P : A → Type 0) (d : (a : A) → Codec (P a)) where
   unfoldable pub depPut : (a : A) × P a → List ℕ
@@ -58,27 +58,21 @@ module _ {A : Type 0} (c : Codec A) (P : A → Type 0) (d : (a : A) → Codec (P
   unfolding dep depGet
   dep-got p q = rw (p, q) refl
 
-  pub dep-refuses : {Q : ℕ → Type 0} → Refuses Q c → ((a : A) → Refuses Q (d a)) → Refuses Q dep
-  unfolding dep depGet
-  dep-refuses {Q} f g =
-      record {
-        number = λ bs.
-            andThen-no Q (c .get bs) _ (f .number bs)
-            (λ a r. andThen-no Q (d a .get r) _ (g a .number r) (λ b s e p. absurd (let z : _≡_ {A = ℕ} 0 1 = cc in omega arith)));
-      }
-
-  -- ---- what can stand there, and its room
+  -- ---- what can stand there, and its bounds
 
   pub dep-ok : (a : A) (b : P a) → dep .ok (a, b) ≡ true → (c .ok a ≡ true) × (d a .ok b ≡ true)
   unfolding dep depOk
   dep-ok a b h = (and-left _ _ h, and-right (c .ok a) _ h)
 
-  pub dep-room : {m n : ℕ} → AtMost m c → ((a : A) → AtMost n (d a)) → AtMost (m + n) dep
-  unfolding dep depPut depOk
-  dep-room {m} {n} f g =
+  pub dep-bounded : {Q : ℕ → Type 0} {m n : ℕ} → Bounded Q m c → ((a : A) → Bounded Q n (d a)) → Bounded Q (m + n) dep
+  unfolding dep depPut depGet depOk
+  dep-bounded {Q} {m} {n} f g =
       record {
         room = λ x h.
             let p = f .room (x .0) (and-left _ _ h) in
             let q = g (x .0) .room (x .1) (and-right (c .ok (x .0)) _ h) in
             simp length-append (omega arith);
+        number = λ bs.
+            andThen-no Q (c .get bs) _ (f .number bs)
+            (λ a r. andThen-no Q (d a .get r) _ (g a .number r) (λ b s e p. absurd (let z : _≡_ {A = ℕ} 0 1 = cc in omega arith)));
       }

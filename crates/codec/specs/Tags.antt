@@ -8,8 +8,8 @@ use native.Mathlib.Omega.{arith}
 use lib.Dec.{eqb}
 use borrow.Author.Tests.{eqb-true}
 use Rattle.codec.specs.Readings.{Reading, got, no}
-use Rattle.codec.specs.Codecs.{Codec, AtMost, Refuses}
-use Rattle.codec.specs.Views.{view, viewGet, view-room, view-refuses, whenTrue}
+use Rattle.codec.specs.Codecs.{Codec, Bounded}
+use Rattle.codec.specs.Views.{view, viewGet, view-bounded, whenTrue}
 
 abbrev pub orElse : {A : Type 0} → Option A → Option A → Option A
 orElse (some a) o = some a
@@ -48,10 +48,6 @@ module _ {A : Type 0} (c : Codec ℕ) (e : ℕ) (number : A → ℕ) (all : List
   unfolding enum viewGet
   enum-got a p = rw (p, known a) refl
 
-  pub enum-room : {n : ℕ} → AtMost n c → AtMost n enum
+  pub enum-bounded : {P : ℕ → Type 0} {n : ℕ} → P e → Bounded P n c → Bounded P n enum
   unfolding enum
-  enum-room f = view-room c e number _ _ (λ a h. known a) enum-same f
-
-  pub enum-refuses : {P : ℕ → Type 0} → P e → Refuses P c → Refuses P enum
-  unfolding enum
-  enum-refuses h f = view-refuses c e number _ _ (λ a p. known a) enum-same h f
+  enum-bounded h f = view-bounded c e number _ _ (λ a p. known a) enum-same h f

@@ -6,7 +6,7 @@ use mathlib.Core.Option.{Option, none, some}
 use Prim.Native.Nat.{ℕ}
 use native.Mathlib.Omega.{arith}
 use Rattle.codec.specs.Readings.{Reading, got, no, andThen, orNo, andThen-got, andThen-no, orNo-got, orNo-no}
-use Rattle.codec.specs.Codecs.{Codec, Bytes, AtMost, Refuses, and-left, and-right, and-both}
+use Rattle.codec.specs.Codecs.{Codec, Bytes, Bounded, and-left, and-right, and-both}
 
 -- ---- B stands as A; where what stands is no B, the refusal is e
 
@@ -43,13 +43,13 @@ module _ {A B : Type 0} (c : Codec A) (e : ℕ) (to : B → A) (from : A → Opt
   unfolding viewPut viewGet viewOk
   view = record { put = viewPut c to; get = viewGet c e from; ok = viewOk c to fit; there = view-there; whole = view-whole; back = view-back }
 
-  pub view-room : {n : ℕ} → AtMost n c → AtMost n view
-  unfolding view viewPut viewOk
-  view-room f = record { room = λ b h. f .room (to b) (and-right (fit b) _ h) }
-
-  pub view-refuses : {P : ℕ → Type 0} → P e → Refuses P c → Refuses P view
-  unfolding view viewGet
-  view-refuses {P} h f = record { number = λ bs. andThen-no P (c .get bs) _ (f .number bs) (λ a r. orNo-no P e (from a) r h) }
+  pub view-bounded : {P : ℕ → Type 0} {n : ℕ} → P e → Bounded P n c → Bounded P n view
+  unfolding view viewPut viewGet viewOk
+  view-bounded {P} h f =
+      record {
+        room = λ b g. f .room (to b) (and-right (fit b) _ g);
+        number = λ bs. andThen-no P (c .get bs) _ (f .number bs) (λ a r. orNo-no P e (from a) r h);
+      }
 
 -- ---- a part that must pass a test, or the refusal is e
 
@@ -85,13 +85,9 @@ module _ {A : Type 0} (c : Codec A) (e : ℕ) (test : A → Bool) where
   unfolding check viewOk
   check-ok a h = (and-left _ _ h, and-right (test a) _ h)
 
-  pub check-room : {n : ℕ} → AtMost n c → AtMost n check
+  pub check-bounded : {P : ℕ → Type 0} {n : ℕ} → P e → Bounded P n c → Bounded P n check
   unfolding check
-  check-room f = view-room c e _ _ test (λ a h. rw h) check-same f
-
-  pub check-refuses : {P : ℕ → Type 0} → P e → Refuses P c → Refuses P check
-  unfolding check
-  check-refuses h f = view-refuses c e _ _ test (λ a p. rw p) check-same h f
+  check-bounded h f = view-bounded c e _ _ test (λ a p. rw p) check-same h f
 
 -- ---- the same under another shape, as a record for a tuple; the way back and forth need hold only for what can stand in a file
 
@@ -114,15 +110,14 @@ module _ {A B : Type 0} (c : Codec A) (to : B → A) (from : A → B) (one : (b 
   unfolding shape viewGet
   shape-got p = rw p refl
 
-  pub shape-refuses : {P : ℕ → Type 0} → Refuses P c → Refuses P shape
-  unfolding shape viewGet
-  shape-refuses {P} f =
-      record { number = λ bs. andThen-no P (c .get bs) _ (f .number bs) (λ a r e p. absurd (let z : _≡_ {A = ℕ} 0 1 = cc in omega arith)) }
-
   pub shape-ok : (b : B) → shape .ok b ≡ true → c .ok (to b) ≡ true
   unfolding shape viewOk
   shape-ok b h = h
 
-  pub shape-room : {n : ℕ} → AtMost n c → AtMost n shape
-  unfolding shape
-  shape-room f = view-room c 0 to _ _ shape-sees shape-same f
+  pub shape-bounded : {P : ℕ → Type 0} {n : ℕ} → Bounded P n c → Bounded P n shape
+  unfolding shape viewPut viewGet viewOk
+  shape-bounded {P} f =
+      record {
+        room = λ b g. f .room (to b) g;
+        number = λ bs. andThen-no P (c .get bs) _ (f .number bs) (λ a r e p. absurd (let z : _≡_ {A = ℕ} 0 1 = cc in omega arith));
+      }

@@ -6,9 +6,9 @@ pub mod Code
 pub mod References
 pub mod Files
 pub mod Opened
+pub mod Samples
 pub mod Cases
-pub mod Sizes
+pub mod Bounds
 pub mod RoundTrips
 pub mod Answers
-pub mod Refusals
 pub mod Returned

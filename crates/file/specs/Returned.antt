@@ -9,7 +9,7 @@ use Rattle.codec.specs.Codecs.{Codec, Bytes, bytes-both, and-left}
 use Rattle.codec.specs.Numbers.{be, be-ok, byte-whole}
 use Rattle.file.specs.Tables.{Table}
 use Rattle.file.specs.Files.{versionOf, tableBy, body, encode, Answer, read, refused, decode, sound}
-use Rattle.file.specs.Sizes.{body-room}
+use Rattle.file.specs.Bounds.{body-room}
 use Rattle.file.specs.RoundTrips.{decode-encode, encode-decode}
 
 -- some file is read as this table

@@ -13,7 +13,7 @@ use Rattle.codec.specs.Numbers.{be, be-ok}
 use Rattle.file.specs.Tables.{Table}
 use Rattle.file.specs.References.{goodReferences}
 use Rattle.file.specs.Files.{versionOf, knownVersion, tableBy, body, encode, Answer, read, refused, judged, versioned, framed, decode, sound}
-use Rattle.file.specs.Sizes.{body-room}
+use Rattle.file.specs.Bounds.{body-room}
 
 -- ---- versions: a table is written in a version that is known, and read in the version that it is written in
 

@@ -1,5 +1,5 @@
 -- Items advance: each goes on behind its place and inside the text with its parts in order, is a refusal 2 or 3 there, or is the end.
-use Prim.Native.Nat.{ℕ, _+_, _≤_, _<_}
+use Prim.Native.Nat.{ℕ, _≤_, _<_}
 use mathlib.Core.Path.{_≡_, refl}
 use mathlib.Core.List.{List}
 use mathlib.Core.Bool.{Bool, true, false, cond}
@@ -11,16 +11,14 @@ use Rattle.text.specs.declared.Token.the-variants as T
 use Rattle.text.specs.declared.Got.{Got}
 use Rattle.text.specs.declared.State.{State}
 use Rattle.text.specs.declared.State.the-variants as Q
-use Rattle.text.specs.declared.Item.{Item}
 use Rattle.text.specs.declared.Item.the-variants as I
-use Rattle.text.specs.declared.ReadItem.{ReadItem}
 use Rattle.text.specs.Tokens.{tokenAt, codeAt, is, stands}
 use Rattle.text.specs.TokensLaws.{token-in}
 use Rattle.text.specs.Expect.{got, from, refusal, want, wantAny}
 use Rattle.text.specs.ExpectLaws.{want-follows, any-follows, refusal-bad, Refused, Kept, from-kept, refusal-kept, want-kept, any-kept}
 use Rattle.text.specs.Items.{refusedAt, sectionOf, portionOf, partOf, declarationAt, sectionAt, moduleBodyAt, taskPortAt, portionAt, taskBodyAt, headAt, partAt, modeBodyAt, targetAt, actAt, finishAt, itemAt, goes}
 use Rattle.text.specs.Laid.{Laid}
-use Rattle.text.specs.ProductionsLaws.{Onward, Good, cond-good, closed-good, end-good, module-good, constant-good, sensor-good, actuator-good, task-good, input-good, output-good, task-end-good, mode-good, activity-good, guard-good, guard-arg-good, invoke-good, arg-good, update-good, switch-good}
+use Rattle.text.specs.ProductionsLaws.{Good, cond-good, closed-good, end-good, module-good, constant-good, sensor-good, actuator-good, task-good, input-good, output-good, task-end-good, mode-good, activity-good, guard-good, guard-arg-good, invoke-good, arg-good, update-good, switch-good}
 
 -- the end is read at the text's length
 want-end : (s : List ℕ) (at : ℕ) (g : Got) → Kept s at g → g .bad ≡ 0 → want T.End s g .bad ≡ 0 → want T.End s g .end ≡ length s

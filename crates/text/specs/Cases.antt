@@ -123,55 +123,27 @@ cases =
     passes "module _m1 { const a_1 = 5; _ = a_1; start mode m[period=1us]{}}" ∷
     passes "module M { const a = - /**/ 5; start mode m [period=1us] { } }" ∷
     passes "module M { const const sensor actuator actuator start mode m [period=1us] { task task actuator mode mode } }" ∷
-    passes "module M { task t { input int t; output int o := 1; uses f; } start mode m [period=1us] { } }" ∷
-    passes "module M { const M = 1; start mode m [period=1us] { } }" ∷
     passes "module M { start mode m [period=1us] { mode [freq=1] m; } }" ∷
     passes "module int { const int = 1; sensor int boolean uses int; boolean less uses g; start mode m [period=1us] { mode [freq=1] if isTrue(less) then m; } }" ∷
     passes "module M { const a = 0000000000000000000000000000000000000000000000000000001; start mode m [period=01us] { } }" ∷
-    passes "module M { const a = -0; start mode m [period=1us] { } }" ∷
-    passes "module M { start mode m [period=2147483ms] { } }" ∷
     passes "module M { task t { uses f; } start mode m [period=4us] { mode [freq=4] n; } mode n [period=4us] { task [freq=2] t(); } }" ∷
     passes "module M { start mode m [period=1us] { mode [freq=1] m; [freq=1] m; } }" ∷
     passes "module M { const g = 1; sensor int s uses g; int t uses g; start mode m [period=1us] { } }" ∷
     passes "module M { /* // */ }" ∷
     passes "module M { sensor int s uses g; actuator int a := 0 uses f; start mode m [period=1us] { actuator [freq=1] a := s.o; } }" ∷
-    passes "module M { actuator int a := 0 uses f; task t { output int o := 0; uses f; } start mode m [period=1us] { actuator [freq=1] a := t; } }" ∷
     passes "module M { sensor LLLLLLLLLLLLLLLLLLLLLLLLLLLLLLLLL s uses g; }" ∷
-    passes "module M { sensor int s uses LLLLLLLLLLLLLLLLLLLLLLLLLLLLLLLLL; }" ∷
-    passes "module M { const a = LLLLLLLLLLLLLLLLLLLLLLLLLLLLLLLLL; }" ∷
     passes "module LLLLLLLLLLLLLLLLLLLLLLLLLLLLLLLLL { }" ∷
-    passes "module M { start mode m [period=1us] { mode [freq=1] LLLLLLLLLLLLLLLLLLLLLLLLLLLLLLLLL; } mode LLLLLLLLLLLLLLLLLLLLLLLLLLLLLLLLL [period=1us] { } }" ∷
     passes "module M { task t { input int p; output int p := 1; uses f; } }" ∷
-    passes "module M { const a = a; }" ∷
     passes "module M { const a = 1; a = a; }" ∷
-    passes "module M { sensor int x uses g; start mode m [period=1us] { mode [freq=1] x; } mode x [period=1us] { } }" ∷
-    passes "module M { start mode a [period=1us] { mode [freq=1] i; } mode b [period=1us] { } mode c [period=1us] { } mode d [period=1us] { } mode e [period=1us] { } mode f [period=1us] { } mode g [period=1us] { } mode h [period=1us] { } mode i [period=1us] { } }" ∷
-    passes "module M { const c = 1; sensor c s uses g; }" ∷
-    passes "module M { actuator int a := 0 uses f; task t { input int i; uses f; } start mode m [period=1us] { actuator [freq=1] a := t.i; } }" ∷
-    passes "module M { const c = 1; actuator int a := 0 uses f; start mode m [period=1us] { actuator [freq=1] a := c; } }" ∷
     passes "module M { sensor int s uses g; actuator int a := s uses f; }" ∷
-    passes "module M { actuator int a := 0 uses f; task t { output boolean o := true; uses f; } start mode m [period=1us] { actuator [freq=1] a := t.o; } }" ∷
     passes "module M { sensor int s uses g; start mode m [period=1us] { mode [freq=1] if less(s,s,s) then m; } }" ∷
     passes "module M { start mode m [period=1us] { mode [freq=1] if isTrue() then m; } }" ∷
     passes "module M { sensor int s uses g; task u { uses f; } start mode m [period=1us] { task [freq=1] u(); [freq=1] u(s); } }" ∷
-    passes "module M { actuator boolean a := 2147483648 uses f; }" ∷
     passes "module M { actuator boolean a := -2147483649 uses f; }" ∷
     passes "module M { const i = 1; b = true; start mode m [period=1us] { mode [freq=1] if equal(i,b) then m; } }" ∷
     passes "module M { const a = 18446744073709551617; }" ∷
-    passes "module M { start mode m [period=4294967297us] { } }" ∷
-    passes "module M { const a = -2147483649; }" ∷
-    passes "module M { start mode m [period=2147484ms] { } }" ∷
-    passes "module M { start mode m [period=0us] { } }" ∷
-    passes "module M { task t { uses f; } start mode m [period=5us] { task [freq=0] t(); } }" ∷
-    passes "module M { task t { uses f; } start mode m [period=5us] { task [freq=65] t(); } }" ∷
-    passes "module M { task t { uses f; } start mode m [period=5us] { task [freq=2] t(); } }" ∷
-    passes "module M { task t { uses f; } start mode m [period=4us] { task [freq=2] t(); mode [freq=4] n; } mode n [period=4us] { } }" ∷
-    passes "module M { task t { uses f; } task u { uses f; } start mode m [period=4us] { task [freq=4] t(); [freq=2] u(); mode [freq=4] m; } }" ∷
-    passes "module M { task t { uses f; } start mode m [period=1us] { task [freq=1] t(); task [freq=1] t(); } }" ∷
     passes "module M { start mode m [period=1us] { } start mode m [period=1us] { } }" ∷
     passes "module M { }" ∷
-    passes "module M { sensor float s uses g; }" ∷
-    passes "module M { sensor Int s uses g; }" ∷
     passes "module M { task t { input int a; int b; int c; int d; int e; int f; int g; int h; int i; uses f; } }" ∷
     []
 

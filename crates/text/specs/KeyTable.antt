@@ -7,7 +7,7 @@ use native.Mathlib.Numerals.{add-one}
 use lib.ListN.{length, getD, drop, take, drop-of-length-le, List·getD-eq-default}
 use lib.Seq.{getD-take, getD-drop, drop-cons}
 use lib.Dec.{eqb, leb, T, eqb→eq, leb→le}
-use Rattle.model.specs.Bytes.{bytes, same, placeIn}
+use Rattle.model.specs.Bytes.{same, placeIn}
 use Rattle.text.specs.declared.Token.the-variants as Token
 use Rattle.text.specs.Words.{keywords, keyword}
 use Rattle.text.specs.Tokens.{keyTokens, keyToken}

@@ -8,7 +8,6 @@ use lib.ListN.{length}
 use Rattle.model.specs.Bytes.{bytes}
 use Rattle.text.specs.declared.Token.the-variants as T
 use Rattle.text.specs.declared.Got.{Got}
-use Rattle.text.specs.declared.Port.{Port}
 use Rattle.text.specs.declared.ReadPort.{ReadPort}
 use Rattle.text.specs.declared.Literal.{Literal}
 use Rattle.text.specs.declared.Literal.the-variants.{Truth, Number, Named}

@@ -14,12 +14,12 @@ use Rattle.text.specs.declared.Item.{Item}
 use Rattle.text.specs.declared.Item.the-variants as I
 use Rattle.text.specs.declared.ReadItem.{ReadItem}
 use Rattle.text.specs.Tokens.{stands}
-use Rattle.text.specs.Expect.{want, wantAny, read, closed}
+use Rattle.text.specs.Expect.{want, read, closed}
 use Rattle.text.specs.ExpectLaws.{want-follows, any-follows, word-follows, either-follows, Refused, Kept, want-kept, any-kept, word-kept, either-kept}
 use Rattle.text.specs.Productions.{pastLiteral, literalAt, portAt, moduleAt, constantAt, sensorAt, actuatorAt, taskAt, inputAt, outputAt, taskEndAt, period, freq, ms, us, modeOf, modeAt, activityAt, guardAt, guardArgAt, invokeAt, argAt, updateAt, switchAt}
 use Rattle.text.specs.PartsLaws.{unsaid, literal-wide, literal-good, port-wide, port-good}
 use Rattle.text.specs.Items.{goes}
-use Rattle.text.specs.Laid.{NameLaid, Laid}
+use Rattle.text.specs.Laid.{Laid}
 
 -- an item that goes on: behind its place, inside the text, its parts in order
 pub record Onward (at high : ℕ) (r : ReadItem) : Type 0 where

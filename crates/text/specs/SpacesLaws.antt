@@ -1,13 +1,12 @@
 -- How white space and comments go by the byte at a place: 47 is `/`, 42 is `*`, 10 is LF.
 use Prim.Native.Nat.{ℕ, _+_, _≤_, _<_}
 use mathlib.Core.Path.{_≡_, refl, sym, _∙_}
-use mathlib.Core.List.{List, [], _∷_}
-use mathlib.Core.Bool.{Bool, true, false}
+use mathlib.Core.List.{List, _∷_}
+use mathlib.Core.Bool.{true, false}
 use native.Mathlib.Numerals.{add-one}
 use borrow.Author.Tests.{eq-eqb, ne-eqb}
 use lib.ListN.{length, getD, drop, drop-of-length-le}
 use lib.Seq.{drop-cons}
-use Rattle.text.specs.declared.Skipped.{Skipped}
 use Rattle.text.specs.declared.Skipped.the-variants.{Stop, Open}
 use Rattle.text.specs.Spaces.{white, spaces, slash, star, spacesAt, lineAt, blockAt}
 

@@ -1,15 +1,14 @@
 -- Which token starts at a place, by its first byte.
 use Prim.Native.Nat.{ℕ, _+_, _≤_, _<_}
-use mathlib.Core.Path.{_≡_, refl}
+use mathlib.Core.Path.{_≡_}
 use mathlib.Core.List.{List}
-use mathlib.Core.Bool.{Bool, true, false}
+use mathlib.Core.Bool.{true, false}
 use borrow.Author.Tests.{lt-ltb, le-ltb}
 use lib.ListN.{length, getD}
 use lib.Seq.{slice}
 use Rattle.text.specs.declared.Skipped.{Skipped}
 use Rattle.text.specs.declared.Skipped.the-variants.{Stop, Open}
 use Rattle.text.specs.declared.Token.the-variants as T
-use Rattle.text.specs.declared.Lexed.{Lexed}
 use Rattle.text.specs.Spaces.{spacesAt}
 use Rattle.text.specs.Words.{letter, digit, wordByte, munchAt}
 use Rattle.text.specs.Tokens.{wordToken, signToken, lexed, becomes, tokenFrom, startsAt, tokenAt}

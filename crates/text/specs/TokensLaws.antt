@@ -19,7 +19,7 @@ use Rattle.text.specs.Spaces.{white, spaces, slash, line, block, star, s
 use Rattle.text.specs.SpacesLaws.{spaces-end}
 use Rattle.text.specs.Words.{letter, digit, wordByte, munch, munchAt, keywords}
 use Rattle.text.specs.EachEntry.{both, both-left, both-right}
-use Rattle.text.specs.Tokens.{codeOf, keyTokens, keyToken, wordToken, signToken, lexed, becomes, tokenFrom, startsAt, behind, tokenAt, codeAt}
+use Rattle.text.specs.Tokens.{codeOf, keyTokens, keyToken, signToken, lexed, tokenFrom, startsAt, behind, tokenAt, codeAt}
 
 -- ---- white space and comments
 
