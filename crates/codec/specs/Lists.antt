@@ -13,6 +13,9 @@ use Rattle.codec.specs.Codecs.{Codec, Bytes, Bounded, no-bytes, bytes-bo
 use Rattle.codec.specs.Sequences.{dep, depPut, depGet, depOk}
 use Rattle.codec.specs.Views.{shape, viewPut, viewGet, viewOk}
 
+abbrev paired : {A : Type 0} → ℕ → A → ℕ × A
+paired n a = (n, a)
+
 -- ---- n parts; s is what stood before the first, and `on` adds a part to it
 
 module _ {A S : Type 0} (c : S → Codec A) (on : S → A → S) where
@@ -106,13 +109,13 @@ module _ {A S : Type 0} (c : S → Codec A) (on : S → A → S) where
     unfolding running viewGet depGet
     running-no p = rw p refl
 
-    pub running-out : {bs r : List ℕ} {n e : ℕ} → count .get bs ≡ got n r → runGet n s r ≡ no e → running .get bs ≡ no e
+    pub running-on : {bs r : List ℕ} {n : ℕ} → count .get bs ≡ got n r → running .get bs ≡ runGet n s r
     unfolding running viewGet depGet
-    running-out p q = rw (p, q) refl
-
-    pub running-got : {bs r t : List ℕ} {n : ℕ} {xs : List A} → count .get bs ≡ got n r → runGet n s r ≡ got xs t → running .get bs ≡ got xs t
-    unfolding running viewGet depGet
-    running-got p q = rw (p, q) refl
+    running-on {bs} {r} {n} p = rw p (go (runGet n s r))
+      where
+        go : (m : Reading (List A)) → andThen (andThen m (λ xs t. got (paired n xs) t)) (λ x t. got (x .1) t) ≡ m
+        go (got xs t) = refl
+        go (no e) = refl
 
     pub running-ok : (xs : List A) → running .ok xs ≡ true → (count .ok (length xs) ≡ true) × (runOk s xs ≡ true)
     unfolding running viewOk depOk
@@ -166,13 +169,9 @@ module _ {A : Type 0} (count : Codec ℕ) (c : Codec A) where
   unfolding list
   list-no p = running-no {S = Unit {0}} (λ s. c) (λ s a. s) count tt p
 
-  pub list-out : {bs r : List ℕ} {n e : ℕ} → count .get bs ≡ got n r → manyGet c n r ≡ no e → list .get bs ≡ no e
+  pub list-on : {bs r : List ℕ} {n : ℕ} → count .get bs ≡ got n r → list .get bs ≡ manyGet c n r
   unfolding list
-  list-out p q = running-out {S = Unit {0}} (λ s. c) (λ s a. s) count tt p q
-
-  pub list-got : {bs r t : List ℕ} {n : ℕ} {xs : List A} → count .get bs ≡ got n r → manyGet c n r ≡ got xs t → list .get bs ≡ got xs t
-  unfolding list
-  list-got p q = running-got {S = Unit {0}} (λ s. c) (λ s a. s) count tt p q
+  list-on p = running-on {S = Unit {0}} (λ s. c) (λ s a. s) count tt p
 
   pub list-ok : (xs : List A) → list .ok xs ≡ true → (count .ok (length xs) ≡ true) × (manyOk c xs ≡ true)
   unfolding list

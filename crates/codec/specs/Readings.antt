@@ -25,6 +25,12 @@ orNo e (some a) rest = got a rest
 pub got-same : {A : Type 0} {a b : A} {r s : List ℕ} → got a r ≡ got b s → (a ≡ b) × (r ≡ s)
 got-same e = (cc, cc)
 
+-- two changes of what was got are one
+pub andThen-as : {A B C : Type 0} (f : A → B) (g : B → C) (m : Reading A)
+    → andThen (andThen m (λ a r. got (f a) r)) (λ b r. got (g b) r) ≡ andThen m (λ a r. got (g (f a)) r)
+andThen-as f g (got a r) = refl
+andThen-as f g (no e) = refl
+
 -- what was got in the end was got step by step
 pub andThen-got : {A B : Type 0} (m : Reading A) (go : A → List ℕ → Reading B) {b : B} {r : List ℕ}
     → andThen m go ≡ got b r → (a : A) × (s : List ℕ) × (m ≡ got a s) × (go a s ≡ got b r)

@@ -2,9 +2,9 @@
 use mathlib.Core.Path.{_≡_, refl, sym, ap, _∙_, subst}
 use mathlib.Core.List.{List, _++_, append-assoc}
 use mathlib.Core.Bool.{Bool, true, _&&_}
-use Prim.Native.Nat.{ℕ, _+_, _≤_}
+use Prim.Native.Nat.{ℕ, _+_}
 use native.Mathlib.Omega.{arith}
-use lib.ListN.{length, length-append}
+use lib.ListN.{length-append}
 use Rattle.codec.specs.Readings.{Reading, got, no, andThen, got-same, andThen-got, andThen-no}
 use Rattle.codec.specs.Codecs.{Codec, Bytes, Bounded, bytes-both, bytes-behind, and-left, and-right, and-both}
 
@@ -49,6 +49,10 @@ module _ {A : Type 0} (c : Codec A) (P : A → Type 0) (d : (a : A) → Codec (P
   pub dep-no : {bs : List ℕ} {e : ℕ} → c .get bs ≡ no e → dep .get bs ≡ no e
   unfolding dep depGet
   dep-no p = rw p refl
+
+  pub dep-on : {bs r : List ℕ} {a : A} → c .get bs ≡ got a r → dep .get bs ≡ andThen (d a .get r) (λ b s. got (a, b) s)
+  unfolding dep depGet
+  dep-on p = rw p refl
 
   pub dep-out : {bs r : List ℕ} {a : A} {e : ℕ} → c .get bs ≡ got a r → d a .get r ≡ no e → dep .get bs ≡ no e
   unfolding dep depGet

@@ -7,7 +7,7 @@ use Prim.Native.Nat.{ℕ}
 use native.Mathlib.Omega.{arith}
 use lib.Dec.{eqb}
 use borrow.Author.Tests.{eqb-true}
-use Rattle.codec.specs.Readings.{Reading, got, no}
+use Rattle.codec.specs.Readings.{got, no}
 use Rattle.codec.specs.Codecs.{Codec, Bounded}
 use Rattle.codec.specs.Views.{view, viewGet, view-bounded, whenTrue}
 

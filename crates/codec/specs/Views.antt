@@ -102,6 +102,10 @@ module _ {A B : Type 0} (c : Codec A) (to : B → A) (from : A → B) (one : (b 
   unfolding view
   shape = view c 0 to (λ a. some (from a)) (λ b. true) shape-sees shape-same
 
+  pub shape-on : (bs : List ℕ) → shape .get bs ≡ andThen (c .get bs) (λ a r. got (from a) r)
+  unfolding shape viewGet
+  shape-on bs = refl
+
   pub shape-no : {bs : List ℕ} {n : ℕ} → c .get bs ≡ no n → shape .get bs ≡ no n
   unfolding shape viewGet
   shape-no p = rw p refl

@@ -1,5 +1,5 @@
 -- What reading and writing a file answer (document 01, 'The file'), with the numbers that the document gives.
-use mathlib.Core.Bool.{Bool, true, false, cond, _&&_}
+use mathlib.Core.Bool.{Bool, cond, _&&_}
 use mathlib.Core.List.{List, _++_}
 use Prim.Native.Nat.{ℕ}
 use lib.Dec.{leb}
@@ -8,7 +8,7 @@ use Rattle.file.specs.Files.{Answer, read, refused}
 use Rattle.file.specs.declared.ReadAnswer.{ReadAnswer}
 use Rattle.file.specs.declared.ReadAnswer.the-variants.{Read, Refused}
 use Rattle.file.specs.declared.WriteAnswer.{WriteAnswer}
-use Rattle.file.specs.declared.WriteAnswer.the-variants.{Wrote, Declined}
+use Rattle.file.specs.declared.WriteAnswer.the-variants.{Wrote, Refused as WriteRefused}
 
 -- ---- the reader
 
@@ -26,7 +26,7 @@ readNumber (Refused n) = n
 
 -- Writing a table alone is refused with 30, then 14.
 abbrev pub writes : Bool → List ℕ → List ℕ → WriteAnswer
-writes sound file buffer = cond sound (cond (leb (length file) (length buffer)) (Wrote (length file)) (Declined 14)) (Declined 30)
+writes sound file buffer = cond sound (cond (leb (length file) (length buffer)) (Wrote (length file)) (WriteRefused 14)) (WriteRefused 30)
 
 -- After a refusal the buffer is untouched; after a success, the bytes behind the file.
 abbrev pub written : Bool → List ℕ → List ℕ → List ℕ
@@ -35,4 +35,4 @@ written sound file buffer = cond (sound && leb (length file) (length buffer)) (f
 -- the document's number of each answer; 0 stands for a file
 abbrev pub writeNumber : WriteAnswer → ℕ
 writeNumber (Wrote n) = 0
-writeNumber (Declined n) = n
+writeNumber (WriteRefused n) = n

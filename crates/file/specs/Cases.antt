@@ -10,7 +10,7 @@ use Rattle.model.specs.Instructions.{Instr, Driver, nop, future, call, release,
 use Rattle.file.specs.Tables.{port, fixed, GuardRow, Table}
 use Rattle.file.specs.Files.{body, encode, Answer, read, refused, decode, sound}
 use Rattle.file.specs.Opened.{opened}
-use Rattle.file.specs.Samples.{modeRow, guardRow, smallestWith, oneMode, smallest, smallestFile, fullWith, allDrivers, allGuards, allModes, allCode, full, framed, wideTasks, oneMore, begun, toDrivers, toGuards, toModes, toCode}
+use Rattle.file.specs.Samples.{modeRow, guardRow, smallestWith, oneMode, smallest, smallestFile, fullWith, allDrivers, allGuards, allModes, full, framed, wideTasks, oneMore, begun, toDrivers, toGuards, toModes, toCode}
 
 pub data Case : Type 0 where
   written : Table → List ℕ → Case  -- this table and this file, both ways
@@ -46,7 +46,7 @@ passAll (c ∷ cs) = passes c && passAll cs
 abbrev changed : ℕ → ℕ → List ℕ
 changed at b = set smallestFile at b
 
--- one driver, or guard, in the full table; another mode or code in the smallest
+-- the full table with this driver alone, or this guard alone, or another code of nine instructions
 abbrev withDriver : Driver → Table
 withDriver d = fullWith (d ∷ []) [] oneMode (return ∷ [])
 

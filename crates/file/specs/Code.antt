@@ -1,8 +1,8 @@
 -- Drivers, guards, modes and code (document 01, 'The file'; opcodes: 'The code').
 use mathlib.Core.Path.{_≡_, refl, sym, ap, _∙_}
-use mathlib.Core.Bool.{Bool, true, false}
+use mathlib.Core.Bool.{Bool, true}
 use mathlib.Core.List.{List, [], _∷_}
-use mathlib.Core.Option.{Option, some}
+use mathlib.Core.Option.{some}
 use Prim.Native.Nat.{ℕ, zero, suc, _<_}
 use native.Mathlib.Omega.{arith}
 use lib.Dec.{leb, ltb, eqb}
@@ -207,23 +207,23 @@ instr-one (switch m) = refl
 one-argument : (o f s : ℕ) → fitsForm unused s ≡ true → _≡_ {A = ℕ × (ℕ × ℕ)} (o, (f, noArgument)) (o, (f, s))
 one-argument o f s h = ap (λ (x : ℕ). (o, (f, x))) (sym (eqb-true s noArgument h))
 
-named : (o f s : ℕ) → o < 8 → fitsForm (formsOf o .0) f ≡ true → fitsForm (formsOf o .1) s ≡ true → tripleOf (instrBy o f s) ≡ (o, (f, s))
-named zero f s l h g = one-argument 0 f s g
-named (suc zero) f s l h g = refl
-named (suc (suc zero)) f s l h g = one-argument 2 f s g
-named (suc (suc (suc zero))) f s l h g = one-argument 3 f s g
-named (suc (suc (suc (suc zero)))) f s l h g = refl
-named (suc (suc (suc (suc (suc zero))))) f s l h g = one-argument 5 f s g
-named (suc (suc (suc (suc (suc (suc zero)))))) f s l h g = ap (λ (x : ℕ). (6, (x, noArgument))) (sym (eqb-true f noArgument h)) ∙ one-argument 6 f s g
-named (suc (suc (suc (suc (suc (suc (suc zero))))))) f s l h g = one-argument 7 f s g
-named (suc (suc (suc (suc (suc (suc (suc (suc o)))))))) f s l h g = absurd (omega arith)
+pub triple-named : (o f s : ℕ) → o < 8 → fitsForm (formsOf o .0) f ≡ true → fitsForm (formsOf o .1) s ≡ true → tripleOf (instrBy o f s) ≡ (o, (f, s))
+triple-named zero f s l h g = one-argument 0 f s g
+triple-named (suc zero) f s l h g = refl
+triple-named (suc (suc zero)) f s l h g = one-argument 2 f s g
+triple-named (suc (suc (suc zero))) f s l h g = one-argument 3 f s g
+triple-named (suc (suc (suc (suc zero)))) f s l h g = refl
+triple-named (suc (suc (suc (suc (suc zero))))) f s l h g = one-argument 5 f s g
+triple-named (suc (suc (suc (suc (suc (suc zero)))))) f s l h g = ap (λ (x : ℕ). (6, (x, noArgument))) (sym (eqb-true f noArgument h)) ∙ one-argument 6 f s g
+triple-named (suc (suc (suc (suc (suc (suc (suc zero))))))) f s l h g = one-argument 7 f s g
+triple-named (suc (suc (suc (suc (suc (suc (suc (suc o)))))))) f s l h g = absurd (omega arith)
 
 pub instr-two : (x : ℕ × (ℕ × ℕ)) → triple .ok x ≡ true → tripleOf (instrBy (x .0) (x .1 .0) (x .1 .1)) ≡ x
 unfolding triple word
 instr-two x h =
     let (o, w) = dep-ok _ _ _ (x .0) (x .1) h in
     let (f, s) = dep-ok _ _ _ (x .1 .0) (x .1 .1) w in
-    named (x .0) (x .1 .0) (x .1 .1) (ltb-true _ _ (check-ok _ _ _ _ o .0)) (check-ok _ _ _ _ f .0) (check-ok _ _ _ _ s .0)
+    triple-named (x .0) (x .1 .0) (x .1 .1) (ltb-true _ _ (check-ok _ _ _ _ o .0)) (check-ok _ _ _ _ f .0) (check-ok _ _ _ _ s .0)
 
 unfoldable pub instruction : Codec Instr
 instruction = shape triple tripleOf (λ x. instrBy (x .0) (x .1 .0) (x .1 .1)) instr-one instr-two

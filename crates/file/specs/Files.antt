@@ -1,6 +1,6 @@
 -- The file of a table, written and read (document 01, 'The file').
 use mathlib.Core.Path.{refl}
-use mathlib.Core.Bool.{Bool, true, false, cond, _&&_}
+use mathlib.Core.Bool.{Bool, cond, _&&_}
 use mathlib.Core.List.{List, [], _∷_, _++_}
 use Prim.Native.Nat.{ℕ}
 use lib.Dec.{eqb}

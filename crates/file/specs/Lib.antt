@@ -12,3 +12,4 @@ pub mod Bounds
 pub mod RoundTrips
 pub mod Answers
 pub mod Returned
+pub mod Tagged

@@ -1,6 +1,6 @@
 -- Sensors, actuators and tasks (document 01, 'The file').
 use mathlib.Core.Path.{refl}
-use mathlib.Core.Bool.{Bool, _&&_}
+use mathlib.Core.Bool.{_&&_}
 use mathlib.Core.List.{List}
 use Prim.Native.Nat.{ℕ, _+_}
 use lib.Dec.{leb}

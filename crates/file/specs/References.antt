@@ -4,7 +4,7 @@ use mathlib.Core.List.{List, [], _∷_, _++_, map}
 use Prim.Native.Nat.{ℕ, _+_}
 use lib.Dec.{ltb, eqb}
 use lib.ListN.{length, getD}
-use Rattle.model.specs.Bytes.{placeIn, same}
+use Rattle.model.specs.Bytes.{placeIn}
 use Rattle.model.specs.Values.{int, boolean, functionNames}
 use Rattle.model.specs.Modules.{Sensor, Actuator, Task, noTask, each, portTypes}
 use Rattle.model.specs.Instructions.{Instr, nop, future, call, release, iff, jump, return, switch, Driver, updates, releases, terminates}

@@ -1,11 +1,11 @@
 -- The tables that the reader returns are the sound ones, each from one file.
-use mathlib.Core.Path.{_≡_, refl, sym, ap, _∙_, subst}
-use mathlib.Core.List.{List, _++_}
+use mathlib.Core.Path.{_≡_, refl, sym, ap, _∙_}
+use mathlib.Core.List.{List}
 use mathlib.Core.Bool.{Bool, true, false}
 use Prim.Native.Nat.{ℕ, _^_, _<_}
 use native.Mathlib.Omega.{arith}
 use lib.ListN.{length}
-use Rattle.codec.specs.Codecs.{Codec, Bytes, bytes-both, and-left}
+use Rattle.codec.specs.Codecs.{Bytes, bytes-both, and-left}
 use Rattle.codec.specs.Numbers.{be, be-ok, byte-whole}
 use Rattle.file.specs.Tables.{Table}
 use Rattle.file.specs.Files.{versionOf, tableBy, body, encode, Answer, read, refused, decode, sound}

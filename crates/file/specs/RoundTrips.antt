@@ -2,13 +2,13 @@
 use mathlib.Core.Path.{_≡_, refl, sym, ap, ap₂, _∙_, subst}
 use mathlib.Core.List.{List, [], _∷_, _++_, append-nil}
 use mathlib.Core.Bool.{Bool, true, false, cond}
-use Prim.Native.Nat.{ℕ, _^_, _≤_, _<_}
+use Prim.Native.Nat.{ℕ, _^_, _<_}
 use native.Mathlib.Omega.{arith}
 use lib.Dec.{eqb}
 use lib.ListN.{length}
 use borrow.Author.Tests.{eqb-true, eq-eqb}
 use Rattle.codec.specs.Readings.{Reading, got, no}
-use Rattle.codec.specs.Codecs.{Codec, Bytes, bytes-behind, and-left, and-right, and-both}
+use Rattle.codec.specs.Codecs.{Bytes, bytes-behind, and-left, and-right, and-both}
 use Rattle.codec.specs.Numbers.{be, be-ok}
 use Rattle.file.specs.Tables.{Table}
 use Rattle.file.specs.References.{goodReferences}

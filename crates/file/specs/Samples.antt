@@ -5,7 +5,6 @@ use lib.ListN.{length}
 use Rattle.codec.specs.Numbers.{be}
 use Rattle.model.specs.Bytes.{bytes}
 use Rattle.model.specs.Values.{int, boolean}
-use Rattle.model.specs.Modules.{Sensor, Actuator, Output, Task}
 use Rattle.model.specs.Instructions.{Instr, nop, future, call, release, iff, jump, return, switch, Driver, updates, releases, terminates}
 use Rattle.file.specs.Tables.{Argument, port, fixed, GuardRow, ModeRow, Table}
 
@@ -39,7 +38,10 @@ smallestFile =
     ∷ 0x00 ∷ 0x00 ∷ 0x00 ∷ 0x00 ∷ 0x02 ∷ 0xFF ∷ 0xFF ∷ 0xFF ∷ 0xFF
     ∷ 0x05 ∷ 0x00 ∷ 0x00 ∷ 0x00 ∷ 0x00 ∷ 0xFF ∷ 0xFF ∷ 0xFF ∷ 0xFF ∷ []
 
--- ---- everything once. Ports: sensors 0 int and 1 boolean; actuators 2 int and 3 boolean; first task's inputs 4 int and 5 boolean, outputs 6 int and 7 boolean; second task's output 8 boolean
+-- ---- everything once
+
+-- ports: sensors 0 int and 1 boolean; actuators 2 int and 3 boolean;
+-- the first task's inputs 4 int and 5 boolean, its outputs 6 int and 7 boolean; the second task's output 8 boolean
 
 unfoldable pub fullWith : List Driver → List GuardRow → List ModeRow → List Instr → Table
 fullWith drivers guards modes code =

@@ -11,5 +11,5 @@ pub enum ReadAnswer {
 // Writing a table alone gives the length of its file, or one number.
 pub enum WriteAnswer {
     Wrote(usize),
-    Declined(u8),
+    Refused(u8),
 }

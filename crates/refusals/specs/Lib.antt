@@ -10,3 +10,10 @@ pub mod Rules
 pub mod Texts
 pub mod Reading
 pub mod Cases
+pub mod ModuleCases
+pub mod RoomCases
+pub mod ChecksLaws
+pub mod Order
+pub mod Strict
+pub mod RulesOrder
+pub mod Twice
