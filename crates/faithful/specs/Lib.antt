@@ -1,2 +1,4 @@
 pub mod Stands
 pub mod Runs
+pub mod Tasks
+pub mod Placed

@@ -4,4 +4,5 @@ pub mod Rules
 pub mod Calls
 pub mod Code
 pub mod InstantLaws
+pub mod Accepted
 pub mod Cases
