@@ -1,0 +1,165 @@
+// The tokens of a text: white space and comments, names, keywords, numbers and signs.
+// Promises that each function answers what the definitions of text say, at every place, also behind the end.
+// Builds on text and model.
+ghost use mathlib.Core.Path.{_≡_};
+ghost use mathlib.Core.Bool.{cond, false};
+ghost use lib.ListN.{getD};
+ghost use lib.Dec.{eqb};
+ghost use Rattle.text.specs.Tokens.{codeOf, signToken, startsAt, tokenAt, codeAt};
+use text::Lexed;
+use text::Skipped;
+use text::Token;
+
+mod keys;
+mod spaces;
+mod words;
+
+pub use words::same;
+pub use words::value;
+
+// The number of a token.
+pub fn code(t: Token) -> u8
+    ensures { λ r. ⌜ r ≡ codeOf t ⌝ }
+{
+    match t {
+        Token::Name => 0,
+        Token::Number => 1,
+        Token::LeftBrace => 2,
+        Token::RightBrace => 3,
+        Token::LeftBracket => 4,
+        Token::RightBracket => 5,
+        Token::LeftParen => 6,
+        Token::RightParen => 7,
+        Token::Semicolon => 8,
+        Token::Equals => 9,
+        Token::Dot => 10,
+        Token::Becomes => 11,
+        Token::Comma => 12,
+        Token::Minus => 13,
+        Token::KeyActuator => 14,
+        Token::KeyAs => 15,
+        Token::KeyAsynchronous => 16,
+        Token::KeyConst => 17,
+        Token::KeyFalse => 18,
+        Token::KeyIf => 19,
+        Token::KeyImport => 20,
+        Token::KeyInit => 21,
+        Token::KeyInput => 22,
+        Token::KeyMode => 23,
+        Token::KeyModule => 24,
+        Token::KeyOutput => 25,
+        Token::KeyPublic => 26,
+        Token::KeySensor => 27,
+        Token::KeyStart => 28,
+        Token::KeyState => 29,
+        Token::KeyStruct => 30,
+        Token::KeyTask => 31,
+        Token::KeyThen => 32,
+        Token::KeyTrue => 33,
+        Token::KeyType => 34,
+        Token::KeyUses => 35,
+        Token::End => 36,
+        Token::Bad => 37,
+    }
+}
+
+// The sign that a byte alone is.
+fn sign(b: u8) -> Token
+    ensures { λ r. ⌜ r ≡ signToken b ⌝ }
+{
+    match b {
+        b'{' => Token::LeftBrace,
+        b'}' => Token::RightBrace,
+        b'[' => Token::LeftBracket,
+        b']' => Token::RightBracket,
+        b'(' => Token::LeftParen,
+        b')' => Token::RightParen,
+        b';' => Token::Semicolon,
+        b'=' => Token::Equals,
+        b'.' => Token::Dot,
+        b',' => Token::Comma,
+        b'-' => Token::Minus,
+        _ => Token::Bad,
+    }
+}
+
+// Whether b and the byte at a place behind it are `:=`.
+fn becomes(s: &[u8], next: usize, b: u8) -> bool
+    ensures { λ r. ⌜ r ≡ cond (eqb b 58) (eqb (getD (now (s .entry)) next 0) 61) false ⌝ }
+{
+    if b != b':' {
+        return false;
+    }
+    if next < s.len() {
+        return s[next] == b'=';
+    }
+    false
+}
+
+// The token that starts at a place; the end behind the last byte.
+fn starts_at(s: &[u8], at: usize) -> Lexed
+    ensures { λ r. ⌜ r ≡ startsAt (now (s .entry)) at ⌝ }
+{
+    if s.len() <= at {
+        return Lexed {
+            token: Token::End,
+            start: at,
+            end: at,
+        };
+    }
+    let b = s[at];
+    let next = at + 1;
+    if words::is_letter(b) {
+        let end = words::run_end(s, next, false);
+        let t = keys::word_token(s, at, end);
+        return Lexed {
+            token: t,
+            start: at,
+            end: end,
+        };
+    }
+    if words::is_digit(b) {
+        let end = words::run_end(s, next, true);
+        return Lexed {
+            token: Token::Number,
+            start: at,
+            end: end,
+        };
+    }
+    if becomes(s, next, b) {
+        return Lexed {
+            token: Token::Becomes,
+            start: at,
+            end: next + 1,
+        };
+    }
+    let t = sign(b);
+    Lexed {
+        token: t,
+        start: at,
+        end: next,
+    }
+}
+
+// The token at a place of the text, behind white space and comments.
+pub fn token(s: &[u8], at: usize) -> Lexed
+    ensures { λ r. ⌜ r ≡ tokenAt (now (s .entry)) at ⌝ }
+{
+    match spaces::skip(s, at) {
+        Skipped::Stop(place) => starts_at(s, place),
+        Skipped::Open(place) => Lexed {
+            token: Token::Bad,
+            start: place,
+            end: place,
+        },
+    }
+}
+
+// The number of the token at a place.
+pub fn code_at(s: &[u8], at: usize) -> u8
+    ensures { λ r. ⌜ r ≡ codeAt (now (s .entry)) at ⌝ }
+{
+    let lexed = token(s, at);
+    let t = lexed.token;
+    code(t)
+}
