@@ -1,11 +1,10 @@
 -- Modes and their activities: the rules 4 and 6 to 12 that they must keep.
 use Prim.Native.Nat.{ℕ, _*_, _+_}
-use mathlib.Core.List.{List, [], _∷_, _++_, map}
+use mathlib.Core.List.{List, [], _∷_, map}
 use mathlib.Core.Bool.{Bool, true, false, cond, _&&_}
 use lib.Dec.{eqb, ltb}
-use lib.ListN.{length, getD, drop}
+use lib.ListN.{length, drop}
 use Rattle.text.specs.declared.Name.{Name}
-use Rattle.text.specs.declared.Port.{Port}
 use Rattle.model.specs.Bytes.{placeIn}
 use Rattle.model.specs.Rooms.{periodRoom, frequencyRoom, activityRoom}
 use Rattle.model.specs.Values.{int, boolean, functionNames, functionBy, operandsOf}
@@ -17,7 +16,6 @@ use Rattle.refusals.specs.Checks.{Check}
 use Rattle.refusals.specs.Names.{letters, named, moduleScope, taskScope, actuatorSort, modeSort, inputSort, noType, isKnown, count, types, isPortOf}
 use Rattle.refusals.specs.Refusals.{longName, notHere, notGiven, wrongNumber, beyond, outOfRange, periodUndivided, taskCut, actsTwice, full, secondStart, noStart}
 use Rattle.refusals.specs.Values.{numberOf}
-use Rattle.refusals.specs.Ports.{taskNamed, portRules}
 
 -- ---- a mode
 

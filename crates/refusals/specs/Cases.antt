@@ -11,6 +11,7 @@ use Rattle.text.specs.Items.{refusedIn}
 use Rattle.text.specs.Cases.{markIn, unmarked, free}
 use Rattle.refusals.specs.declared.Verdict.{Verdict}
 use Rattle.refusals.specs.declared.Verdict.the-variants.{Fine, No}
+use Rattle.refusals.specs.Checks.{isFine}
 use Rattle.refusals.specs.Reading.{readItems, answerBy}
 
 pub data Case : Type 0 where
@@ -20,10 +21,6 @@ pub data Case : Type 0 where
 abbrev pub isNo : ℕ → ℕ → Verdict → Bool
 isNo number at Fine = false
 isNo number at (No other there) = eqb other number && eqb there at
-
-abbrev pub isFine : Verdict → Bool
-isFine Fine = true
-isFine (No number at) = false
 
 -- free of 2 and 3, and of this answer
 abbrev pub refusedBy : ℕ → ℕ → List ℕ → List Item → Bool

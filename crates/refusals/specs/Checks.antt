@@ -36,3 +36,7 @@ first [] = Fine
 first (c ∷ cs) =
     let on = first cs in
     cond (c .broken) (No (c .number) (c .at)) on
+
+abbrev pub isFine : Verdict → Bool
+isFine Fine = true
+isFine (No number at) = false

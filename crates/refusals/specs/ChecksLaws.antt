@@ -7,7 +7,7 @@ use mathlib.Core.Logic.{_⊎_, inl, inr, ⊎-elim}
 use native.Mathlib.Omega.{arith}
 use Rattle.refusals.specs.declared.Verdict.{Verdict}
 use Rattle.refusals.specs.declared.Verdict.the-variants.{Fine, No}
-use Rattle.refusals.specs.Checks.{Check, check, Cause, Precedes, Leftmost, first}
+use Rattle.refusals.specs.Checks.{Check, check, Cause, Precedes, Leftmost, first, isFine}
 
 -- ---- no second answer fits
 
@@ -26,10 +26,6 @@ leftmost-unique cs (No n a) (No m b) p q =
     rw (e .0, e .1)
 
 -- ---- part by part
-
-abbrev pub isFine : Verdict → Bool
-isFine Fine = true
-isFine (No number at) = false
 
 -- the first answer, or where it is fine the second
 abbrev pub orElse : Verdict → Verdict → Verdict

@@ -5,8 +5,6 @@ use mathlib.Core.Bool.{Bool, true, false, cond, _||_}
 use mathlib.Core.Option.{Option, none, some}
 use lib.Dec.{eqb}
 use lib.ListN.{length, getD, drop}
-use Rattle.text.specs.declared.Name.{Name}
-use Rattle.text.specs.declared.Port.{Port}
 use Rattle.text.specs.declared.Item.{Item}
 use Rattle.text.specs.declared.Item.the-variants as I
 use Rattle.model.specs.declared.Function.{Function}
@@ -18,7 +16,6 @@ use Rattle.model.specs.Modules.{Sensor, Actuator, Output, Task, Act, Call, Upda
 use Rattle.refusals.specs.declared.Row.{Row}
 use Rattle.refusals.specs.Names.{letters, constantSort}
 use Rattle.refusals.specs.Values.{typeNamed, literalWord, numberOf}
-use Rattle.refusals.specs.Declarations.{declares}
 use Rattle.refusals.specs.Ports.{taskNamed, portNamed, argumentNamed}
 use Rattle.refusals.specs.Activities.{periodAt, functionNamed, guardTypes, typesLeft, inputTypes, actuatorNamed, modeNamed}
 

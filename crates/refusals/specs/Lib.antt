@@ -17,3 +17,4 @@ pub mod Order
 pub mod Strict
 pub mod RulesOrder
 pub mod Twice
+pub mod NamesLaws

@@ -1,4 +1,4 @@
--- The definitions that a case computes with, under two names.
+-- The definitions that a case computes with, each group under one name.
 use Prim.Native.Nat.{ℕ}
 use mathlib.Core.List.{List, []}
 use Rattle.model.specs.Bytes.{same, placeIn}

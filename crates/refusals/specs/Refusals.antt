@@ -4,10 +4,10 @@ use mathlib.Core.List.{List, [], _∷_}
 use mathlib.Core.Bool.{Bool, true, false, cond, not, _&&_, _||_}
 use lib.Dec.{eqb, ltb, leb}
 use Rattle.text.specs.declared.Name.{Name}
-use Rattle.model.specs.Rooms.{nameRoom, frequencyRoom, periodRoom}
+use Rattle.model.specs.Rooms.{nameRoom, frequencyRoom}
 use Rattle.refusals.specs.declared.Row.{Row}
 use Rattle.refusals.specs.Checks.{Check, check}
-use Rattle.refusals.specs.Names.{noType, isKnown, isUnknown, count}
+use Rattle.refusals.specs.Names.{noType, isKnown, isUnknown}
 
 -- 4 | name over 32 bytes | the name
 abbrev pub longName : Name → Check
@@ -77,6 +77,7 @@ abbrev pub actsTwice : Row → List ℕ → Name → Check
 actsTwice row before name = check 10 (name .start) (isKnown row && among (row .value) before)
 
 -- 11 | a table of the section above is full | first name too many, or the activity's "["
+-- Drivers 288 and guards 256 have no line of their own: 32 tasks, and 32 activities in each of 8 modes, need no more. A third argument of a guard is 7.
 abbrev pub full : ℕ → ℕ → ℕ → Check
 full room taken at = check 11 at (leb room taken)
 

@@ -70,7 +70,7 @@ module _ (M : Module) where
       record {
         place = record { mode = v .place .mode; time = v .place .time; store = record { ports = v .place .store .ports; tasks = tasks }; released = v .place .released };
         clock = v .clock;
-        stopped = v .stopped
+        stopped = v .stopped;
       }
 
   -- A late task stops the module, all else as before the call.
@@ -83,7 +83,7 @@ module _ (M : Module) where
       record {
         place = record { mode = v .place .mode; time = v .place .time + gone; store = v .place .store; released = v .place .released };
         clock = count;
-        stopped = none
+        stopped = none;
       }
 
   -- Less than what remains: idle. Equal: one reaction. More: refused.

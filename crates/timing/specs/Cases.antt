@@ -21,10 +21,12 @@ use Rattle.timing.specs.Code.{driversOf, codeOf, beginsOf, instantsOf, i
 five : Mode
 five =
     record {
-      name = bytes "m"; start = true; period = 10000;
+      name = bytes "m";
+      start = true;
+      period = 10000;
       calls = record { frequency = 2; guard = none; what = record { task = 0; sources = [] } } ∷ [];
       updates = record { frequency = 5; guard = none; what = record { source = 1; target = 0 } } ∷ [];
-      switches = []
+      switches = [];
     }
 
 blocks-of-five : instantsOf five ≡ 2000 ∷ 4000 ∷ 5000 ∷ 6000 ∷ 8000 ∷ []
@@ -41,11 +43,13 @@ bikes =
       tasks = record { name = bytes "count"; function = bytes "c"; inputs = int ∷ []; outputs = record { name = bytes "o"; type = int; start = 10 } ∷ [] } ∷ [];
       guards = [];
       modes = record {
-        name = bytes "m"; start = true; period = 5000;
+        name = bytes "m";
+        start = true;
+        period = 5000;
         calls = record { frequency = 1; guard = none; what = record { task = 0; sources = 0 ∷ [] } } ∷ [];
         updates = record { frequency = 1; guard = none; what = record { source = 3; target = 1 } } ∷ [];
-        switches = []
-      } ∷ []
+        switches = [];
+      } ∷ [];
     }
 
 code-of-bikes : codeOf bikes ≡
@@ -84,18 +88,22 @@ twoModes =
       tasks = record { name = bytes "watch"; function = bytes "w"; inputs = boolean ∷ []; outputs = record { name = bytes "o"; type = boolean; start = 0 } ∷ [] } ∷ [];
       guards = record { function = IsTrue; first = Port 3; second = Port 0 } ∷ [];
       modes = record {
-          name = bytes "day"; start = true; period = 10;
-          calls = record { frequency = 2; guard = none; what = record { task = 0; sources = 0 ∷ [] } } ∷ [];
-          updates = record { frequency = 2; guard = none; what = record { source = 3; target = 1 } } ∷ [];
-          switches = record { frequency = 1; guard = some 0; what = 1 } ∷ []
-        }
-        ∷ record {
-          name = bytes "night"; start = false; period = 4;
-          calls = [];
-          updates = record { frequency = 1; guard = none; what = record { source = 0; target = 1 } } ∷ [];
-          switches = []
-        }
-        ∷ []
+        name = bytes "day";
+        start = true;
+        period = 10;
+        calls = record { frequency = 2; guard = none; what = record { task = 0; sources = 0 ∷ [] } } ∷ [];
+        updates = record { frequency = 2; guard = none; what = record { source = 3; target = 1 } } ∷ [];
+        switches = record { frequency = 1; guard = some 0; what = 1 } ∷ [];
+      }
+          ∷ record {
+            name = bytes "night";
+            start = false;
+            period = 4;
+            calls = [];
+            updates = record { frequency = 1; guard = none; what = record { source = 0; target = 1 } } ∷ [];
+            switches = [];
+          }
+          ∷ [];
     }
 
 -- drivers of a mode: its updates, then its releases; a guarded switch has an `if` whose else goes behind it
@@ -124,7 +132,7 @@ host =
 at-night : T (
     (let at = comes twoModes host (started twoModes 0 (0 ∷ [])) .place in (eqb (at .mode) 1 && eqb (at .time) 0) && same (at .store .ports) (0 ∷ 1 ∷ 0 ∷ 1 ∷ []))
     && (let v = ask twoModes (tick 14 (boolean ∷ []) (0 ∷ [])) (comes twoModes host (started twoModes 0 (0 ∷ []))) .view in same (v .place .store .ports) (0 ∷ 0 ∷ 0 ∷ 1 ∷ []))
-  )
+    )
 unfolding twoModes host started ask entered instant nextInstant spans portStarts fits same holds
 at-night = tt
 
@@ -133,6 +141,6 @@ shown : T (
     (let at = comes twoModes (next ∷ finish 0 (boolean ∷ []) (1 ∷ []) ∷ []) (started twoModes 0 (0 ∷ [])) .place in same (at .store .ports) (0 ∷ 0 ∷ 0 ∷ 0 ∷ []))
     && (let at = comes twoModes (next ∷ finish 0 (boolean ∷ []) (1 ∷ []) ∷ tick 5 (boolean ∷ []) (0 ∷ []) ∷ []) (started twoModes 0 (0 ∷ [])) .place in
     same (at .store .ports) (0 ∷ 1 ∷ 0 ∷ 1 ∷ []) && same (at .released) (0 ∷ []))
-  )
+    )
 unfolding twoModes started ask entered instant nextInstant spans portStarts fits same holds
 shown = tt

@@ -1,8 +1,11 @@
 pub mod Slots
 pub mod SlotLaws
+pub mod SlotFits
 pub mod Rules
 pub mod Calls
 pub mod Code
 pub mod InstantLaws
+pub mod NextInstant
+pub mod ClockLaws
 pub mod Accepted
 pub mod Cases
