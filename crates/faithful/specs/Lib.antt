@@ -2,3 +2,8 @@ pub mod Stands
 pub mod Runs
 pub mod Tasks
 pub mod Placed
+pub mod Blocks
+pub mod Syncs
+pub mod Reacts
+pub mod Docks
+pub mod Histories

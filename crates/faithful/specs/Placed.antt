@@ -69,9 +69,10 @@ below n (m ∷ ms) pc (suc k) lt = let h = below (n + modeDriverCount m) ms (pc 
 
 -- the drivers from n on are those of these activities
 driver-next : (drivers : List Driver) (n : ℕ) (d : Driver) (ds : List Driver) → drop n drivers ≡ d ∷ ds → (getD drivers n noDriver ≡ d) × (drop (n + 1) drivers ≡ ds)
-driver-next drivers n d ds h =
-    (ap (λ (i : ℕ). getD drivers i noDriver) (omega arith) ∙ sym (getD-drop n drivers 0 noDriver) ∙ ap (λ (l : List Driver). getD l 0 noDriver) h,
-    sym (drop-drop 1 n drivers) ∙ ap (λ (l : List Driver). drop 1 l) h)
+driver-next drivers n d ds h = (
+  ap (λ (i : ℕ). getD drivers i noDriver) (omega arith) ∙ sym (getD-drop n drivers 0 noDriver) ∙ ap (λ (l : List Driver). getD l 0 noDriver) h,
+  sym (drop-drop 1 n drivers) ∙ ap (λ (l : List Driver). drop 1 l) h,
+)
 
 module _ {A : Type 0} (drivers : List Driver) (driverOf : A → Driver) where
   pub numbered : (acts : List (Act A)) (n : ℕ) (r : List Driver) → drop n drivers ≡ map (λ a. driverOf (a .what)) acts ++ r

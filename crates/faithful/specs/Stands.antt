@@ -56,7 +56,7 @@ module _ (M : Module) where
         test = λ guard s. holds (s .ports) (getD (M .guards) guard noGuard);
         drive = λ driver s. driven (driverAt driver) s;
         begin = λ task s. begunBy task s (standing s task);
-        ending = λ driver s. endingBy (driverAt driver) s
+        ending = λ driver s. endingBy (driverAt driver) s;
       }
 
   -- an activity after the other, each if its guard holds

@@ -1,0 +1,136 @@
+-- A dock: the machine as a whole with its tasks by their standings, its calls check for check those of the machine (document 01, 'The machine').
+-- It stands between the rules and the machine's words: a means of proof, no definition to be believed.
+use Prim.Native.Nat.{ℕ, zero, suc, _+_, _-_}
+use mathlib.Core.Bool.{Bool, true, false, cond}
+use mathlib.Core.Option.{Option, none, some}
+use mathlib.Core.List.{List, [], _∷_}
+use lib.ListN.{length, getD, set}
+use Rattle.model.specs.Clock.{elapsed, Instant, early, due, missed, judged, fits}
+use Rattle.model.specs.Modules.{Module}
+use Rattle.timing.specs.Rules.{Standing, idle, ready, running, done, Store, sensed}
+use Rattle.timing.specs.Calls.{Ask, tick, next, finish, Reply, waits, reacted, refused, fell, given, taken, lowest, startMode, readingTypes, resultTypes, beginning}
+use Rattle.timing.specs.Code.{beginsOf}
+use Rattle.machine.specs.declared.Reaction.{Reaction}
+use Rattle.machine.specs.declared.Reaction.the-variants.{Obeyed, Idle, Refused, Late, Fault}
+use Rattle.machine.specs.declared.Turn.{Turn}
+use Rattle.machine.specs.declared.Turn.the-variants as T
+use Rattle.machine.specs.declared.Finishing.{Finishing}
+use Rattle.machine.specs.declared.Finishing.the-variants as F
+use Rattle.machine.specs.Instructions as E
+use Rattle.machine.specs.Instructions.{Res, ok, bad, Halt, Run, Tally}
+use Rattle.faithful.specs.Reacts.{reacting}
+
+-- ---- answers, and what they are in the rules' words
+
+pub data Answer : Type 0 where
+  ticking : Reaction → Answer
+  turning : Turn → Answer
+  finishing : Finishing → Answer
+
+-- A fault other than 40 is no reply of the rules.
+abbrev pub replyTo : Answer → Option Reply
+replyTo (ticking (Obeyed instructions)) = some reacted
+replyTo (ticking Idle) = some waits
+replyTo (ticking (Refused number)) = some (refused number)
+replyTo (ticking (Late task)) = some (fell task)
+replyTo (ticking (Fault number)) = none
+replyTo (turning (T.Task task)) = some (given (some task))
+replyTo (turning T.Nobody) = some (given none)
+replyTo (turning (T.Refused number)) = some (refused number)
+replyTo (finishing F.Taken) = some taken
+replyTo (finishing (F.Refused number)) = some (refused number)
+
+abbrev pub answerTo : E.Fault → Reaction
+answerTo (E.late task) = Late task
+answerTo E.wild = Fault 41
+answerTo E.astray = Fault 42
+answerTo E.clash = Fault 43
+
+-- what a stopped machine answers
+abbrev pub refusal : Ask → ℕ → Answer
+refusal (tick count types words) number = ticking (Refused number)
+refusal next number = turning (T.Refused number)
+refusal (finish task types words) number = finishing (F.Refused number)
+
+-- ---- a dock
+
+pub record Dock : Type 0 where
+  pub clock : ℕ
+  pub remaining : ℕ
+  pub mode : ℕ
+  pub pc : ℕ
+  pub store : Store
+  pub stopped : Option E.Fault
+
+pub record Told : Type 0 where
+  pub answer : Answer
+  pub dock : Dock
+
+abbrev pub tells : Dock → Answer → Told
+tells d answer = record { answer = answer; dock = d }
+
+abbrev pub stoppedBy : E.Fault → Dock → Dock
+stoppedBy fault d = record { clock = d .clock; remaining = d .remaining; mode = d .mode; pc = d .pc; store = d .store; stopped = some fault }
+
+abbrev pub cameTo : Dock → ℕ → Tally → Res (Halt Store) → Told
+cameTo d count tally (ok halt) =
+    record {
+      answer = ticking (Obeyed (tally .steps));
+      dock = record { clock = count; remaining = halt .future .delay; mode = halt .mode; pc = halt .future .pc; store = halt .store; stopped = none };
+    }
+cameTo d count tally (bad fault) = record { answer = ticking (answerTo fault); dock = stoppedBy fault d }
+
+abbrev pub withTasks : Dock → List Standing → Dock
+withTasks d tasks =
+    record { clock = d .clock; remaining = d .remaining; mode = d .mode; pc = d .pc; store = record { ports = d .store .ports; tasks = tasks }; stopped = d .stopped }
+
+module _ (M : Module) where
+  -- Sensors take the host's reading, then one reaction.
+  abbrev pub reactedAt : Dock → ℕ → List ℕ → Told
+  reactedAt d count words =
+      let run = reacting M (d .mode) (d .pc) (sensed M words (d .store)) in
+      cameTo d count (run .tally) (run .res)
+
+  abbrev pub byInstant : Dock → ℕ → List ℕ → Instant → Told
+  byInstant d count words (early left) =
+      record { answer = ticking Idle; dock = record { clock = count; remaining = left; mode = d .mode; pc = d .pc; store = d .store; stopped = none } }
+  byInstant d count words due = reactedAt d count words
+  byInstant d count words missed = tells d (ticking (Refused 33))
+
+  abbrev pub handedOut : Dock → Option ℕ → Told
+  handedOut d none = tells d (turning T.Nobody)
+  handedOut d (some task) = record { answer = turning (T.Task task); dock = withTasks d (set (d .store .tasks) task running) }
+
+  abbrev pub finishedBy : Dock → ℕ → List ℕ → List ℕ → Standing → Told
+  finishedBy d task types words idle = tells d (finishing (F.Refused 34))
+  finishedBy d task types words ready = tells d (finishing (F.Refused 34))
+  finishedBy d task types words running =
+      cond (fits (resultTypes M task) types words) (record { answer = finishing F.Taken; dock = withTasks d (set (d .store .tasks) task (done words)) }) (tells d (finishing (F.Refused 35)))
+  finishedBy d task types words (done results) = tells d (finishing (F.Refused 34))
+
+  abbrev pub answered : Ask → Dock → Option E.Fault → Told
+  answered a d (some fault) = tells d (refusal a 31)
+  answered (tick count types words) d none =
+      let served = byInstant d count words (judged (elapsed (d .clock) count) (d .remaining)) in
+      cond (fits (readingTypes M) types words) served (tells d (ticking (Refused 32)))
+  answered next d none = handedOut d (lowest 0 (d .store .tasks))
+  answered (finish task types words) d none = finishedBy d task types words (getD (d .store .tasks) task idle)
+
+  unfoldable pub asked : Ask → Dock → Told
+  asked a d = answered a d (d .stopped)
+
+  -- Beginning values, the start mode, no task out, the count given and 0 remaining; then one reaction.
+  abbrev pub newDock : ℕ → Dock
+  newDock count = record { clock = count; remaining = 0; mode = startMode M; pc = getD (beginsOf M) (startMode M) 0; store = beginning M; stopped = none }
+
+  unfoldable pub startedDock : ℕ → List ℕ → Told
+  startedDock count words = reactedAt (newDock count) count words
+
+  -- A history of calls: all that is answered, and the dock that it leaves.
+  abbrev pub answers : List Ask → Dock → List Answer
+  answers [] d = []
+  answers (a ∷ rest) d = asked a d .answer ∷ answers rest (asked a d .dock)
+
+  abbrev pub leaves : List Ask → Dock → Dock
+  leaves [] d = d
+  leaves (a ∷ rest) d = leaves rest (asked a d .dock)

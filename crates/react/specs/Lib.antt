@@ -1,0 +1,5 @@
+pub mod Rows
+pub mod RowLaws
+pub mod Steps
+pub mod Runs
+pub mod Parts
