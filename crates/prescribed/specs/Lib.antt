@@ -2,3 +2,4 @@ pub mod Tables
 pub mod Compiles
 pub mod Answers
 pub mod Bench
+pub mod Acceptance

@@ -126,7 +126,7 @@ impl Machine {
     }
 
     /// The lowest-numbered task that waits; it is handed out with this.
-    pub fn next(&mut self) -> Result<Option<u32>, u8> {
+    pub fn next_task(&mut self) -> Result<Option<u32>, u8> {
         if self.stopped {
             return Err(31);
         }
@@ -173,8 +173,7 @@ impl Machine {
     fn react(&mut self, count: u32, readings: &[Value]) -> Answer {
         self.working.clear();
         self.working.extend_from_slice(&self.ports);
-        for ((word, port), reading) in
-            self.working.iter_mut().zip(&self.table.ports).zip(readings)
+        for ((word, port), reading) in self.working.iter_mut().zip(&self.table.ports).zip(readings)
         {
             *word = reading.word(port.kind).expect("the readings fit");
         }

@@ -168,7 +168,7 @@ impl Session {
     fn next(&mut self, words: Words, answers: &mut Vec<u8>) -> Option<()> {
         words.end()?;
         if self.is_made(answers) {
-            match self.machine.next() {
+            match self.machine.next_task() {
                 Ok(Some(task)) => say(answers, format_args!("task {task}")),
                 Ok(None) => say(answers, format_args!("none")),
                 Err(number) => say(answers, format_args!("refused {number}")),

@@ -7,6 +7,7 @@ mod errors;
 mod fields;
 mod files;
 mod hostile;
+mod modes;
 mod modules;
 mod names;
 mod pieces;

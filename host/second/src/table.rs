@@ -89,10 +89,19 @@ impl Task {
 
 #[derive(Clone, Copy, Debug, PartialEq, Eq)]
 pub enum Driver {
-    Update { source: u16, actuator: u16 },
+    Update {
+        source: u16,
+        actuator: u16,
+    },
     /// The source ports are `count` words of the table's `sources` from `first`.
-    Release { task: u16, first: u16, count: u8 },
-    Terminate { task: u16 },
+    Release {
+        task: u16,
+        first: u16,
+        count: u8,
+    },
+    Terminate {
+        task: u16,
+    },
 }
 
 #[derive(Clone, Copy, Debug, PartialEq, Eq)]

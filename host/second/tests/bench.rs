@@ -24,9 +24,8 @@ fn case_2_empty_text() {
 
 #[test]
 fn case_3_the_ends_of_int() {
-    let module = |value: &str| {
-        format!("module M {{ const a = {value}; start mode m [period=1us] {{ }} }}")
-    };
+    let module =
+        |value: &str| format!("module M {{ const a = {value}; start mode m [period=1us] {{ }} }}");
     compiled(&module("-2147483648"));
     compiled(&module("2147483647"));
     assert_eq!(refused(&module("2147483648")), (8, 21));
@@ -74,9 +73,8 @@ fn case_6_frequency_that_does_not_divide() {
 
 #[test]
 fn case_7_length_of_names() {
-    let module = |length| {
-        format!("module {} {{ start mode m [period=1us] {{ }} }}", "n".repeat(length))
-    };
+    let module =
+        |length| format!("module {} {{ start mode m [period=1us] {{ }} }}", "n".repeat(length));
     compiled(&module(32));
     assert_eq!(refused(&module(33)), (4, 7));
 }
@@ -97,7 +95,10 @@ fn case_8_the_count_runs_over() {
     let start = format!("start {} 4294965000 i7", to_hex(&compiled(COUNT)));
     let begun = [
         (&start[..], "ok 4"),
-        ("look", "mode=0 count=4294965000 remain=5000 stopped=0 out=1 waiting=1 ports=i7,i0,i7,i10"),
+        (
+            "look",
+            "mode=0 count=4294965000 remain=5000 stopped=0 out=1 waiting=1 ports=i7,i0,i7,i10",
+        ),
         ("next", "task 0"),
     ];
     talk(&[

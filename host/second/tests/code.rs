@@ -91,8 +91,7 @@ fn blocks_of_guarded_activities() {
 #[test]
 fn dead_code_is_written() {
     let table = table("module M { start mode m [period=1us] { mode [freq=1] m; } }");
-    let wanted =
-        [Future { pc: 2, delay: 1 }, Return, Nop(1), Nop(2), Switch(0), Jump(0)];
+    let wanted = [Future { pc: 2, delay: 1 }, Return, Nop(1), Nop(2), Switch(0), Jump(0)];
     assert_eq!(table.code, wanted);
 }
 
@@ -105,7 +104,8 @@ fn ports_go_task_by_task() {
          task u { input int j; int k; output boolean q := no; uses f; }
          start mode m [period=1us] { } }",
     );
-    let ports: Vec<_> = table.ports.iter().map(|port| (port.role, port.kind, port.initial)).collect();
+    let ports: Vec<_> =
+        table.ports.iter().map(|port| (port.role, port.kind, port.initial)).collect();
     assert_eq!(
         ports,
         [

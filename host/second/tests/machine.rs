@@ -74,7 +74,12 @@ fn late_tasks() {
     let mut session = started(&text, "10 -");
     expect(
         &mut session,
-        &[("next", "task 0"), ("next", "task 1"), ("finish 1 -", "ok 0"), ("tick 14 -", "fault 40 0")],
+        &[
+            ("next", "task 0"),
+            ("next", "task 1"),
+            ("finish 1 -", "ok 0"),
+            ("tick 14 -", "fault 40 0"),
+        ],
     );
 }
 

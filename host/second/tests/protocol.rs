@@ -12,10 +12,36 @@ fn is_error(line: &str) {
 #[test]
 fn words() {
     for line in [
-        "", " ", "next ", " next", "next  ", "Next", "nexts", "next x", "look x", "next\r", "tick",
-        "tick 1", "tick 1 - -", "tick  1 -", "tick 1  -", "compile -", "compile", "compile - 1 1",
-        "read", "read - -", "start - 0", "start - 0 - -", "finish 0", "finish 0 - -", "quit", "\0",
-        "start", "finish", "compile - ", "read ",
+        "",
+        " ",
+        "next ",
+        " next",
+        "next  ",
+        "Next",
+        "nexts",
+        "next x",
+        "look x",
+        "next\r",
+        "tick",
+        "tick 1",
+        "tick 1 - -",
+        "tick  1 -",
+        "tick 1  -",
+        "compile -",
+        "compile",
+        "compile - 1 1",
+        "read",
+        "read - -",
+        "start - 0",
+        "start - 0 - -",
+        "finish 0",
+        "finish 0 - -",
+        "quit",
+        "\0",
+        "start",
+        "finish",
+        "compile - ",
+        "read ",
     ] {
         is_error(line);
     }
@@ -23,7 +49,8 @@ fn words() {
 
 #[test]
 fn byte_strings() {
-    for line in ["read 0", "read 0g", "read AB", "read 0x00", "read --", "read 00-", "compile 0 1"] {
+    for line in ["read 0", "read 0g", "read AB", "read 0x00", "read --", "read 00-", "compile 0 1"]
+    {
         is_error(line);
     }
     talk(&[("read 00", "refused 20"), ("read -", "refused 20")]);
@@ -41,17 +68,25 @@ fn numbers() {
         is_error(&format!("finish {number} -"));
     }
     for number in ["0", "4294967295", "0000000000000000000000007"] {
-        talk(&[(&format!("compile - {number}"), "refused 3 0"), (&format!("tick {number} -"), "none")]);
+        talk(&[
+            (&format!("compile - {number}"), "refused 3 0"),
+            (&format!("tick {number} -"), "none"),
+        ]);
     }
 }
 
 #[test]
 fn values() {
-    for values in ["", "i", "i-", "i+1", "b2", "b", "b00", "1", "i1,", ",i1", "i1,,i1", "-,i1", "i1 ", "i--1", "x", "i1,-", "f0", "I1", "B0", "i 1"] {
+    for values in [
+        "", "i", "i-", "i+1", "b2", "b", "b00", "1", "i1,", ",i1", "i1,,i1", "-,i1", "i1 ", "i--1",
+        "x", "i1,-", "f0", "I1", "B0", "i 1",
+    ] {
         is_error(&format!("tick 0 {values}"));
         is_error(&format!("finish 0 {values}"));
     }
-    for values in ["-", "i0", "i-0", "b0,b1", "i99999999999999999999999", "i-99999999999999999999999", "i007"] {
+    for values in
+        ["-", "i0", "i-0", "b0,b1", "i99999999999999999999999", "i-99999999999999999999999", "i007"]
+    {
         talk(&[(&format!("tick 0 {values}"), "none")]);
     }
     let many = ["i1"; 60_000].join(",");

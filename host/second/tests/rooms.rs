@@ -27,11 +27,11 @@ fn room(room: usize, text: impl Fn(usize) -> String, mark: &str) {
 fn declarations() {
     let constants = |count| module(&format!("const {}", list(count, |n| format!("c{n}=1;"))));
     room(64, constants, "c64");
-    let sensors = |count| module(&format!("sensor {}", list(count, |n| format!("int s{n} uses g;"))));
+    let sensors =
+        |count| module(&format!("sensor {}", list(count, |n| format!("int s{n} uses g;"))));
     room(32, sensors, "s32");
-    let actuators = |count| {
-        module(&format!("actuator {}", list(count, |n| format!("int a{n} := 1 uses g;"))))
-    };
+    let actuators =
+        |count| module(&format!("actuator {}", list(count, |n| format!("int a{n} := 1 uses g;"))));
     room(32, actuators, "a32");
     let tasks = |count| module(&list(count, |n| format!("task t{n} {{ uses f; }} ")));
     room(32, tasks, "t32");
@@ -76,7 +76,9 @@ fn activities_of_a_mode() {
     let invoked = list(31, |n| format!("[freq=1] t{n}(); "));
     let text = |switches| {
         let switches = list(switches, |n| format!("[freq=1{}] m; ", " ".repeat(n)));
-        format!("module M {{ {tasks} start mode m [period=1us] {{ task {invoked} mode {switches} }} }}")
+        format!(
+            "module M {{ {tasks} start mode m [period=1us] {{ task {invoked} mode {switches} }} }}"
+        )
     };
     room(1, text, "[freq=1 ]");
 }
@@ -113,7 +115,10 @@ fn length_of_the_code() {
     };
     assert_eq!(length(0), Ok(2049 + 1985 + 5));
     assert_eq!(length(32), Ok(2049 + 1985 + 37));
-    let longer = |last| text(32).replace("} }", &format!("}} mode p [period=1us] {{ mode {} }} }}", switches(last, 1)));
+    let longer = |last| {
+        text(32)
+            .replace("} }", &format!("}} mode p [period=1us] {{ mode {} }} }}", switches(last, 1)))
+    };
     let file = compile(longer(20).as_bytes()).expect("4,096 instructions");
     assert_eq!(file.len() - 4096 * 9, 4 + 1 + 2 + 6 * 2 + 4 * 11 + 2);
     assert_eq!(refused(&longer(21)), (13, longer(21).len() as u32));

@@ -68,7 +68,7 @@ fn ticks(file: &[u8], table: &Table) {
     machine.start(file, 0, &readings);
     let (mut due, mut obeyed) = (0u64, 0u64);
     let time = measure(|| {
-        while let Ok(Some(task)) = machine.next() {
+        while let Ok(Some(task)) = machine.next_task() {
             machine.finish(task, &results[task as usize]).expect("a task handed out");
         }
         let count = machine.count().wrapping_add(machine.remaining());
@@ -78,7 +78,10 @@ fn ticks(file: &[u8], table: &Table) {
         due += 1;
         obeyed += instructions as u64;
     });
-    println!("due tick with its tasks: {time:?}, {:.1} instructions each", obeyed as f64 / due as f64);
+    println!(
+        "due tick with its tasks: {time:?}, {:.1} instructions each",
+        obeyed as f64 / due as f64
+    );
     let time = measure(|| machine.tick(black_box(machine.count()), &readings));
     println!("idle tick: {time:?}");
 }

@@ -102,7 +102,8 @@ impl Checker<'_> {
         }
         let frequency = digits.value as u32;
         let switches = matches!(activity.deed, Deed::Switch { .. });
-        if current.period % frequency != 0 || switches && !self.harmonic(frequency, current) {
+        let fits = current.period.is_multiple_of(frequency);
+        if !fits || switches && !self.harmonic(frequency, current) {
             return refuse(9, digits.at);
         }
         Ok(frequency)
@@ -113,7 +114,7 @@ impl Checker<'_> {
     fn harmonic(&self, frequency: u32, current: &Current) -> bool {
         let first = current.first_activity;
         let invocations = &self.plan.activities[first..first + current.invocations];
-        invocations.iter().all(|invocation| invocation.frequency % frequency == 0)
+        invocations.iter().all(|invocation| invocation.frequency.is_multiple_of(frequency))
     }
 
     fn guard(&mut self, guard: &syntax::Guard) -> Checked<u16> {

@@ -308,7 +308,7 @@ impl Parser<'_, '_> {
 }
 
 fn value_of(digits: &[u8]) -> u64 {
-    digits.iter().fold(0u64, |value, &digit| {
-        value.saturating_mul(10).saturating_add((digit - b'0') as u64)
-    })
+    digits
+        .iter()
+        .fold(0u64, |value, &digit| value.saturating_mul(10).saturating_add((digit - b'0') as u64))
 }

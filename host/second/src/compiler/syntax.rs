@@ -20,9 +20,16 @@ pub struct Number {
 
 #[derive(Clone, Copy, Debug)]
 pub enum Value {
-    Boolean { at: u32, word: i32 },
+    Boolean {
+        at: u32,
+        word: i32,
+    },
     /// `at` is the place of the minus, if there is one.
-    Number { at: u32, negative: bool, digits: Number },
+    Number {
+        at: u32,
+        negative: bool,
+        digits: Number,
+    },
     Constant(Name),
 }
 

@@ -120,7 +120,7 @@ pub fn hex(bytes: &[u8], answers: &mut Vec<u8>) {
 
 /// Adds the bytes that the digits say.
 pub fn unhex(digits: &[u8], bytes: &mut Vec<u8>) -> Option<()> {
-    if digits.is_empty() || digits.len() % 2 != 0 {
+    if digits.is_empty() || !digits.len().is_multiple_of(2) {
         return None;
     }
     let mut sound = true;

@@ -38,9 +38,40 @@ fn shuffle_tokens(pieces: &mut Pieces, random: &mut Random) {
 
 fn odd_token(random: &mut Random) -> Piece {
     const TOKENS: [&str; 34] = [
-        "actuator", "as", "asynchronous", "const", "false", "if", "import", "init", "input", "mode",
-        "module", "output", "public", "sensor", "start", "state", "struct", "task", "then", "true",
-        "type", "uses", "{", "}", "[", "]", "(", ")", ";", "=", ".", ":=", ",", "-",
+        "actuator",
+        "as",
+        "asynchronous",
+        "const",
+        "false",
+        "if",
+        "import",
+        "init",
+        "input",
+        "mode",
+        "module",
+        "output",
+        "public",
+        "sensor",
+        "start",
+        "state",
+        "struct",
+        "task",
+        "then",
+        "true",
+        "type",
+        "uses",
+        "{",
+        "}",
+        "[",
+        "]",
+        "(",
+        ")",
+        ";",
+        "=",
+        ".",
+        ":=",
+        ",",
+        "-",
     ];
     match random.below(4) {
         0 => piece(Role::Literal, random.below(100).to_string()),
@@ -205,8 +236,7 @@ fn change_arguments(pieces: &mut Pieces, random: &mut Random) {
 /// An activity from its `[` to its `;` once more: 10, or 11, or nothing new.
 fn double_activity(pieces: &mut Pieces, random: &mut Random) {
     let begins = |pieces: &Pieces, place: usize| {
-        pieces[place].is("[")
-            && pieces.get(place + 1).is_some_and(|piece| piece.is("freq"))
+        pieces[place].is("[") && pieces.get(place + 1).is_some_and(|piece| piece.is("freq"))
     };
     let places: Vec<usize> = (0..pieces.len()).filter(|&place| begins(pieces, place)).collect();
     if places.is_empty() {
@@ -221,8 +251,10 @@ fn double_activity(pieces: &mut Pieces, random: &mut Random) {
 
 /// Damage by bytes: 2, and everything that tokens broken in two give.
 pub fn damage_bytes(text: &mut Vec<u8>, random: &mut Random) {
-    const ODD: [&[u8]; 14] =
-        [b"$", b":", b"/", b"/*", b"*/", b"//", b"'", b"\"", b"\x80", b"\0", b"\x0B", b":=", b"+", b"~"];
+    const ODD: [&[u8]; 14] = [
+        b"$", b":", b"/", b"/*", b"*/", b"//", b"'", b"\"", b"\x80", b"\0", b"\x0B", b":=", b"+",
+        b"~",
+    ];
     for _ in 0..random.between(1, 2) {
         let place = random.below(text.len() + 1);
         match random.below(5) {

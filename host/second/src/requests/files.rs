@@ -118,20 +118,18 @@ fn framed(body: &[u8]) -> Vec<u8> {
     [&(body.len() as u32).to_be_bytes()[..], body].concat()
 }
 
-/// By kinds first: code would drown all other fields. Those that 24 is about
-/// come up more often, since most other damage is 23.
+/// By kinds first: code would drown all other fields. References come up more
+/// often, since most other damage is 23 and hardly any 24.
 fn pick_field(fields: &[Field], random: &mut Random) -> Field {
-    let about_meaning = random.percent(45);
-    loop {
-        let field = random.pick(fields);
-        if about_meaning && !matches!(field.kind, Kind::Reference | Kind::Flag) {
-            continue;
-        }
-        let of_a_kind = fields.iter().filter(|other| other.kind == field.kind).count();
-        if random.below(of_a_kind) < 3 {
-            return field;
+    let mut kinds: Vec<Kind> = Vec::new();
+    for field in fields {
+        if !kinds.contains(&field.kind) {
+            kinds.push(field.kind);
         }
     }
+    let kind = if random.percent(40) { Kind::Reference } else { random.pick(&kinds) };
+    let of_a_kind: Vec<Field> = fields.iter().copied().filter(|field| field.kind == kind).collect();
+    random.pick(&of_a_kind)
 }
 
 fn change(file: &mut [u8], field: Field, random: &mut Random) {
@@ -170,9 +168,28 @@ fn edge(kind: Kind, old: u32, random: &mut Random) -> Option<u32> {
 /// Another name of the same length, a keyword, or no name at all.
 fn change_name(name: &mut [u8], random: &mut Random) {
     const KEYWORDS: [&[u8]; 22] = [
-        b"actuator", b"as", b"asynchronous", b"const", b"false", b"if", b"import", b"init",
-        b"input", b"mode", b"module", b"output", b"public", b"sensor", b"start", b"state",
-        b"struct", b"task", b"then", b"true", b"type", b"uses",
+        b"actuator",
+        b"as",
+        b"asynchronous",
+        b"const",
+        b"false",
+        b"if",
+        b"import",
+        b"init",
+        b"input",
+        b"mode",
+        b"module",
+        b"output",
+        b"public",
+        b"sensor",
+        b"start",
+        b"state",
+        b"struct",
+        b"task",
+        b"then",
+        b"true",
+        b"type",
+        b"uses",
     ];
     let fitting: Vec<&[u8]> =
         KEYWORDS.iter().copied().filter(|keyword| keyword.len() == name.len()).collect();

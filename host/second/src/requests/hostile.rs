@@ -136,8 +136,8 @@ impl Builder<'_> {
             _ => self.number_of(self.table.modes.len()).map(Instruction::Switch),
         };
         let nop = Instruction::Nop(self.random.below(3) as u8);
-        let after_future =
-            matches!(self.table.code.last(), Some(Instruction::Future { .. })) && self.random.percent(70);
+        let after_future = matches!(self.table.code.last(), Some(Instruction::Future { .. }))
+            && self.random.percent(70);
         let next = if after_future { Instruction::Return } else { instruction.unwrap_or(nop) };
         self.table.code.push(next);
     }

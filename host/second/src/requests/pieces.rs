@@ -79,7 +79,13 @@ pub fn join(pieces: &[Piece], spacing: Spacing, random: &mut Random) -> Vec<u8> 
     }
     for (place, piece) in pieces.iter().enumerate() {
         if place > 0 {
-            space(&mut text, pieces[place - 1].text.as_bytes(), piece.text.as_bytes(), spacing, random);
+            space(
+                &mut text,
+                pieces[place - 1].text.as_bytes(),
+                piece.text.as_bytes(),
+                spacing,
+                random,
+            );
         }
         text.extend_from_slice(piece.text.as_bytes());
     }
@@ -112,10 +118,11 @@ fn space(text: &mut Vec<u8>, left: &[u8], right: &[u8], spacing: Spacing, random
 
 /// Two words in a row would be one; only a name right behind a number isn't.
 fn would_merge(left: &[u8], right: &[u8]) -> bool {
-    let word = |byte: Option<&u8>| byte.is_some_and(|&byte| byte.is_ascii_alphanumeric() || byte == b'_');
+    let word =
+        |byte: Option<&u8>| byte.is_some_and(|&byte| byte.is_ascii_alphanumeric() || byte == b'_');
     let number = left.iter().all(|byte| byte.is_ascii_digit());
     let digit = right.first().is_some_and(|byte| byte.is_ascii_digit());
-    word(left.last()) && word(right.first()) && !(number && !digit)
+    word(left.last()) && word(right.first()) && (digit || !number)
 }
 
 /// White space and comments; a line comment always has its end.

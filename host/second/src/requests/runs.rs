@@ -9,6 +9,7 @@ use crate::machine::{Machine, Value};
 use crate::protocol::{hex, say_values, Session};
 use crate::table::{Table, Type};
 
+#[derive(Default)]
 pub struct Runs {
     session: Session,
     files: Files,
@@ -19,19 +20,6 @@ pub struct Runs {
     /// Whether this run's host works well: it finishes every task in time.
     diligent: bool,
     answers: Vec<u8>,
-}
-
-impl Default for Runs {
-    fn default() -> Runs {
-        Runs {
-            session: Session::new(),
-            files: Files::default(),
-            left: 0,
-            look: false,
-            diligent: false,
-            answers: Vec::new(),
-        }
-    }
 }
 
 impl Runs {
@@ -122,7 +110,12 @@ fn call(machine: &Machine, left: &mut usize, diligent: bool, random: &mut Random
         4 if handed_out != 0 => finish(machine, handed_out.trailing_zeros(), true, random),
         5 if handed_out != 0 => finish(machine, 63 - handed_out.leading_zeros(), false, random),
         6 => tick(machine, random.below(machine.remaining().max(1) as usize) as u32, false, random),
-        7 => tick(machine, machine.remaining().wrapping_add(random.below(9) as u32 + 1), false, random),
+        7 => tick(
+            machine,
+            machine.remaining().wrapping_add(random.below(9) as u32 + 1),
+            false,
+            random,
+        ),
         8 => tick(machine, random.word() as u32, random.percent(30), random),
         9 => tick(machine, machine.remaining(), true, random),
         10 => tick(machine, machine.remaining() / 2, random.percent(30), random),
@@ -146,7 +139,10 @@ fn finish(machine: &Machine, task: u32, wrong: bool, random: &mut Random) -> Vec
 }
 
 fn call_to_nobody(random: &mut Random) -> Vec<u8> {
-    random.pick(&["next", "look", "tick 5 -", "finish 0 -", "tick 0 i1,b1", "finish 40 b0"]).as_bytes().to_vec()
+    random
+        .pick(&["next", "look", "tick 5 -", "finish 0 -", "tick 0 i1,b1", "finish 40 b0"])
+        .as_bytes()
+        .to_vec()
 }
 
 /// Values of the types, or with something wrong about them.

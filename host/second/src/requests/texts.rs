@@ -62,7 +62,7 @@ fn padded_text(random: &mut Random) -> Vec<u8> {
     let mut text = good_text(random);
     let over = random.pick(&[0, 0, 1, 1, 2, 700]);
     let length = rooms::TEXT_BYTES + over;
-    let filler = random.pick(&[b' ', b'\n', b'x', b'$', b'\t']);
+    let filler = random.pick(b" \nx$\t");
     if random.percent(30) {
         text.extend_from_slice(b"//");
     }
@@ -137,8 +137,18 @@ fn coprime_frequencies(random: &mut Random) -> Vec<u8> {
 /// Short texts of nothing but tokens, or of nothing but bytes.
 fn odd_text(random: &mut Random) -> Vec<u8> {
     const STARTS: [&[u8]; 12] = [
-        b"", b" ", b"module", b"module M", b"module M {", b"module M { }", b"//", b"/*/", b"/**/",
-        b"module M { start mode m [period=1us] { } }", b"module M { const", b"module M { task",
+        b"",
+        b" ",
+        b"module",
+        b"module M",
+        b"module M {",
+        b"module M { }",
+        b"//",
+        b"/*/",
+        b"/**/",
+        b"module M { start mode m [period=1us] { } }",
+        b"module M { const",
+        b"module M { task",
     ];
     let mut text = random.pick(&STARTS).to_vec();
     for _ in 0..random.below(5) {
@@ -180,7 +190,11 @@ mod tests {
                 Ok(()) => accepted += 1,
                 Err(refusal) => {
                     let number = refusal.number;
-                    assert!(matches!(number, 1 | 13), "{number}: {}", String::from_utf8_lossy(&text));
+                    assert!(
+                        matches!(number, 1 | 13),
+                        "{number}: {}",
+                        String::from_utf8_lossy(&text)
+                    );
                 }
             }
         }
