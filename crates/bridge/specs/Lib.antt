@@ -1,1 +1,5 @@
 pub mod Boards
+pub mod Tabulated
+pub mod Carried
+pub mod Sane
+pub mod Views

@@ -17,6 +17,7 @@ use Rattle.timing.specs.SlotLaws.{Each}
 use Rattle.timing.specs.Rules.{Standing, idle, ready, running, done, Store, Outcome, well, late, Place, modeAt, nextInstant, sensed, entered, instant}
 use Rattle.timing.specs.InstantLaws.{next-le, next-same, till-next}
 use Rattle.timing.specs.Accepted.{Accepted}
+use Rattle.timing.specs.Standings.{handed-ready}
 use Rattle.timing.specs.Calls as C
 use Rattle.timing.specs.Calls.{Ask, tick, next, finish, Reply, fell, View, Said, lowest, remains, readingTypes, resultTypes, answer, ask, ticked, handed, finished, startMode, beginning, started, replies, comes}
 use Rattle.machine.specs.declared.Reaction.the-variants.{Fault}
@@ -27,14 +28,6 @@ use Rattle.faithful.specs.Tasks.{Idle, absent-if}
 use Rattle.faithful.specs.Syncs.{at, Sync, Quiet}
 use Rattle.faithful.specs.Reacts.{reacting, Follows, Agrees, reaction, beginning-run}
 use Rattle.faithful.specs.Docks.{Answer, ticking, finishing, replyTo, Dock, Told, cameTo, withTasks, byInstant, handedOut, finishedBy, answered, asked, newDock, startedDock, answers, leaves}
-
--- the task that the rules hand out is released and not yet handed out
-pub found : (n t : ℕ) (l : List Standing) → lowest n l ≡ some t → (i : ℕ) × (t ≡ n + i) × (getD l i idle ≡ ready)
-found n t [] e = let z : _≡_ {A = ℕ} 0 1 = cc in absurd (omega arith)
-found n t (ready ∷ l) e = let h : n ≡ t = cc in (0, omega arith, refl)
-found n t (idle ∷ l) e = let (i, a, b) = found (suc n) t l e in (suc i, omega arith, b)
-found n t (running ∷ l) e = let (i, a, b) = found (suc n) t l e in (suc i, omega arith, b)
-found n t (done x ∷ l) e = let (i, a, b) = found (suc n) t l e in (suc i, omega arith, b)
 
 -- A standing that is not idle may change: what is idle stays.
 change : (j t : ℕ) (l : List Standing) (x y : Standing) → getD l t idle ≡ x → (x ≡ idle → ⊥) → getD l j idle ≡ idle → getD (set l t y) j idle ≡ idle
@@ -152,13 +145,11 @@ module _ (M : Module) (W : Accepted M) where
     hand-both : (o : Option ℕ) → lowest 0 (v .place .store .tasks) ≡ o → Both M (handed M v o) (handedOut M (shadow M v pc) o)
     hand-both none h = record { pc = pc; says = refl; shows = refl; waiting = G }
     hand-both (some t) h =
-        let (i, a, b) = found 0 t (v .place .store .tasks) h in
-        let e : t ≡ i = omega arith in
         record {
           pc = pc;
           says = refl;
           shows = refl;
-          waiting = record { sync = G .sync; quiet = λ j ab. change j t (v .place .store .tasks) ready running (rw e b) (λ q. let w : _≡_ {A = ℕ} 0 1 = cc in omega arith) (G .quiet j ab) };
+          waiting = record { sync = G .sync; quiet = λ j ab. change j t (v .place .store .tasks) ready running (handed-ready t (v .place .store .tasks) h) (λ q. let w : _≡_ {A = ℕ} 0 1 = cc in omega arith) (G .quiet j ab) };
         }
 
     finish-both : (t : ℕ) (types words : List ℕ) (o : Standing) → getD (v .place .store .tasks) t idle ≡ o → Both M (finished M v t types words o) (finishedBy M (shadow M v pc) t types words o)

@@ -10,6 +10,7 @@ use Rattle.model.specs.Modules.{Module, Act, Call, Update, copyTo}
 use Rattle.model.specs.Instructions.{Driver, updates, releases, terminates, noDriver}
 use Rattle.timing.specs.Rules as R
 use Rattle.timing.specs.Rules.{Standing, idle, ready, running, done, Store, Outcome, well, late, inputsOf, passes}
+use Rattle.timing.specs.Standings.{isOut}
 use Rattle.timing.specs.Code.{driversOf}
 use Rattle.machine.specs.Instructions as E
 use Rattle.machine.specs.Instructions.{Res, ok, bad, clash, Ops}
@@ -17,12 +18,6 @@ use Rattle.machine.specs.Instructions.{Res, ok, bad, clash, Ops}
 abbrev pub resOf : {A : Type 0} → Outcome A → Res A
 resOf (well a) = ok a
 resOf (late task) = bad (E.late task)
-
-abbrev pub isOut : Standing → ℕ
-isOut idle = 0
-isOut ready = 1
-isOut running = 1
-isOut (done results) = 1
 
 module _ (M : Module) where
   abbrev pub withPorts : Store → List ℕ → Store

@@ -14,6 +14,7 @@ use Rattle.model.specs.Instructions.{Instr, call, release, releases, updates, t
 use Rattle.timing.specs.Slots.{keep}
 use Rattle.timing.specs.SlotLaws.{Each}
 use Rattle.timing.specs.Accepted.{Absent, Distinct}
+use Rattle.timing.specs.Standings.{terminated, split}
 use Rattle.timing.specs.Rules as R
 use Rattle.timing.specs.Rules.{Standing, idle, ready, running, done, Store, Outcome, well, late, passes, terminations, outputsOf, inputsOf}
 use Rattle.timing.specs.Code.{fixed, pieces, Driven, releasing}
@@ -30,11 +31,6 @@ AllIdle (a ∷ rest) s = Idle s (a .what .task) × AllIdle rest s
 
 abbrev pub Free : List (Act Call) → Store → Type 0
 Free rest s = Distinct rest × AllIdle rest s
-
-set-idle : (l : List Standing) (t : ℕ) → getD (set l t idle) t idle ≡ idle
-set-idle [] t = refl
-set-idle (x ∷ l) zero = refl
-set-idle (x ∷ l) (suc t) = set-idle l t
 
 -- a change of another task leaves them
 set-free : (rest : List (Act Call)) (s : Store) (ports : List ℕ) (t : ℕ) (v : Standing) → Absent t rest → AllIdle rest s → AllIdle rest (record { ports = ports; tasks = set (s .tasks) t v })
@@ -70,34 +66,12 @@ module _ (M : Module) (begins : List ℕ) (code : List Instr) where
 -- ---- terminations
 
 module _ (M : Module) where
-  abbrev one : Act Call → Store → Outcome Store
-  one a s = R.ended M (a .what .task) s (standing M s (a .what .task))
-
-  -- One that comes about leaves its task idle, and the others as they were.
-  terminated : (t : ℕ) (s v : Store) → R.ended M t s (standing M s t) ≡ well v → (j : ℕ) → Idle v t × ((j ≢ t) → getD (v .tasks) j idle ≡ getD (s .tasks) j idle)
-  terminated t s v q j = go (standing M s t) refl
-    where
-      go : (x : Standing) → standing M s t ≡ x → Idle v t × ((j ≢ t) → getD (v .tasks) j idle ≡ getD (s .tasks) j idle)
-      go idle e = let h : s ≡ v = cc (rw e at q) in (rw (← h) e, λ ne. rw (← h) refl)
-      go ready e = let z : _≡_ {A = ℕ} 0 1 = cc (rw e at q) in absurd (omega arith)
-      go running e = let z : _≡_ {A = ℕ} 0 1 = cc (rw e at q) in absurd (omega arith)
-      go (done x) e =
-          let h : record { ports = place (outputsOf M t) x (s .ports); tasks = set (s .tasks) t idle } ≡ v = cc (rw e at q) in
-          (rw (← h) (set-idle (s .tasks) t), λ ne. rw (← h) (getD-set-other (s .tasks) t j idle idle ne))
-
-  pub split : (a : Act Call) (rest : List (Act Call)) (s v : Store) → terminations M (a ∷ rest) s ≡ well v → (w : Store) × (one a s ≡ well w) × (terminations M rest w ≡ well v)
-  split a rest s v q = go (one a s) refl
-    where
-      go : (x : Outcome Store) → one a s ≡ x → (w : Store) × (one a s ≡ well w) × (terminations M rest w ≡ well v)
-      go (well w) e = (w, e, rw e at q)
-      go (late x) e = let z : _≡_ {A = ℕ} 0 1 = cc (rw e at q) in absurd (omega arith)
-
   -- Where, of the tasks of Q, only those of the list were out, none of Q is.
   pub left-out : (rest : List (Act Call)) (s v : Store) → terminations M rest s ≡ well v → (Q : ℕ → Type 0) → ((j : ℕ) → Q j → Absent j rest → Idle s j) → (j : ℕ) → Q j → Idle v j
   left-out [] s v q Q h j k = let e : s ≡ v = cc in rw (← e) (h j k tt)
   left-out (a ∷ rest) s v q Q h j k =
-      let (w, e, r) = split a rest s v q in
-      left-out rest w v r Q (λ i qi ab. go i qi ab (ℕ-discrete i (a .what .task)) w (terminated (a .what .task) s w e i)) j k
+      let (w, e, r) = split M a rest s v q in
+      left-out rest w v r Q (λ i qi ab. go i qi ab (ℕ-discrete i (a .what .task)) w (terminated M (a .what .task) s w e i)) j k
     where
       go : (i : ℕ) → Q i → Absent i rest → Dec (i ≡ a .what .task) → (w : Store) → Idle w (a .what .task) × ((i ≢ a .what .task) → getD (w .tasks) i idle ≡ getD (s .tasks) i idle) → Idle w i
       go i qi ab (yes n) w b = rw n (b .0)

@@ -8,4 +8,13 @@ pub mod InstantLaws
 pub mod NextInstant
 pub mod ClockLaws
 pub mod Accepted
+pub mod Standings
+pub mod Ticks
+pub mod Lates
+pub mod Related
+pub mod Causes
+pub mod Orders
+pub mod Twins
+pub mod Ideals
+pub mod OrderFree
 pub mod Cases
