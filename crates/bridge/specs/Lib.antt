@@ -3,3 +3,4 @@ pub mod Tabulated
 pub mod Carried
 pub mod Sane
 pub mod Views
+pub mod Kept
