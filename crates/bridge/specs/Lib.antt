@@ -4,3 +4,5 @@ pub mod Carried
 pub mod Sane
 pub mod Views
 pub mod Kept
+pub mod Asides
+pub mod Docked

@@ -5,7 +5,7 @@ ghost use mathlib.Core.Path.{_≡_};
 ghost use mathlib.Core.Bool.{cond, false};
 ghost use lib.ListN.{getD};
 ghost use lib.Dec.{eqb};
-ghost use Rattle.text.specs.Tokens.{codeOf, signToken, startsAt, tokenAt, codeAt};
+ghost use Rattle.text.specs.Tokens.{codeOf, signToken, startsAt, tokenAt, codeAt, stands as standsAt};
 use text::Lexed;
 use text::Skipped;
 use text::Token;
@@ -162,4 +162,12 @@ pub fn code_at(s: &[u8], at: usize) -> u8
     let lexed = token(s, at);
     let t = lexed.token;
     code(t)
+}
+
+// Whether the token at a place is t.
+pub fn stands(s: &[u8], at: usize, t: Token) -> bool
+    ensures { λ r. ⌜ r ≡ standsAt t (now (s .entry)) at ⌝ }
+{
+    let wanted = code(t);
+    code_at(s, at) == wanted
 }

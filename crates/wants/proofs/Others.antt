@@ -1,18 +1,19 @@
--- What the else of a `let .. else` on a token knows, and what a reading is in each branch.
+-- What is known of a token where a `let .. else` or a `match` did not take it, and what a reading is in each branch.
 use Prim.Native.Nat.{ℕ}
-use mathlib.Core.Path.{_≡_, refl, ap, subst, _∙_}
+use mathlib.Core.Path.{_≡_, refl, sym, ap, subst}
 use mathlib.Core.List.{List, [], _∷_}
-use mathlib.Core.Bool.{true, false, not, cond}
+use mathlib.Core.Bool.{Bool, true, false, not, cond}
+use mathlib.Core.Logic.{inl, inr}
 use lib.Dec.{eqb, T}
-use borrow.Author.Tests.{eq-eqb, ne-eqb}
-use types.Run.{OneOf, miss}
+use borrow.Author.Tests.{eq-eqb}
+use types.Run.{OneOf}
 use denote.Enum.Declared.{tagOf}
-use mir.Val.{hasKey}
 use Rattle.text.proofs.Token.{the-type}
 use Rattle.text.specs.declared.Token.{Token}
 use Rattle.text.specs.declared.Token.the-variants as T
 use Rattle.text.specs.declared.Lexed.{Lexed}
 use Rattle.text.specs.declared.Got.{Got}
+use Rattle.text.specs.EachEntry.{both, both-left, both-right}
 use Rattle.text.specs.Tokens.{tokenAt, codeOf, is}
 use Rattle.text.specs.Expect.{allow, want}
 
@@ -56,21 +57,48 @@ tag-code T.KeyUses = refl
 tag-code T.End = refl
 tag-code T.Bad = refl
 
+-- ---- a test that holds of each number of a list
+
+abbrev pub all : (ℕ → Bool) → List ℕ → Bool
+all test [] = true
+all test (k ∷ ks) = both (test k) (all test ks)
+
+one-of : (test : ℕ → Bool) (ks : List ℕ) → T (all test ks) → (x : ℕ) → OneOf ks x → T (test x)
+one-of test [] h x o = absurd o
+one-of test (k ∷ []) h x e = subst (λ (y : ℕ). T (test y)) (sym e) (both-left (test k) true h)
+one-of test (k ∷ m ∷ ks) h x (inl e) = subst (λ (y : ℕ). T (test y)) (sym e) (both-left (test k) (all test (m ∷ ks)) h)
+one-of test (k ∷ m ∷ ks) h x (inr o) = one-of test (m ∷ ks) (both-right (test k) (all test (m ∷ ks)) h) x o
+
+-- ---- the tokens that were not taken
+
 abbrev without : ℕ → List ℕ → List ℕ
 without n [] = []
 without n (x ∷ xs) = cond (eqb x n) xs (x ∷ without n xs)
 
--- the numbers of all tokens but t
-abbrev pub others : Token → List ℕ
-others t = without (codeOf t) (0 ∷ 1 ∷ 2 ∷ 3 ∷ 4 ∷ 5 ∷ 6 ∷ 7 ∷ 8 ∷ 9 ∷ 10 ∷ 11 ∷ 12 ∷ 13 ∷ 14 ∷ 15 ∷ 16 ∷ 17 ∷ 18 ∷ 19 ∷ 20 ∷ 21 ∷ 22 ∷ 23 ∷ 24 ∷ 25 ∷ 26 ∷ 27 ∷ 28 ∷ 29 ∷ 30 ∷ 31 ∷ 32 ∷ 33 ∷ 34 ∷ 35 ∷ 36 ∷ 37 ∷ [])
+-- the numbers of all tokens but these
+abbrev pub others : List Token → List ℕ
+others [] = 0 ∷ 1 ∷ 2 ∷ 3 ∷ 4 ∷ 5 ∷ 6 ∷ 7 ∷ 8 ∷ 9 ∷ 10 ∷ 11 ∷ 12 ∷ 13 ∷ 14 ∷ 15 ∷ 16 ∷ 17 ∷ 18 ∷ 19 ∷ 20 ∷ 21 ∷ 22 ∷ 23 ∷ 24 ∷ 25 ∷ 26 ∷ 27 ∷ 28 ∷ 29 ∷ 30 ∷ 31 ∷ 32 ∷ 33 ∷ 34 ∷ 35 ∷ 36 ∷ 37 ∷ []
+others (t ∷ ts) = without (codeOf t) (others ts)
 
--- t is told from all others
-abbrev pub Told : Token → Type 0
-Told t = T (not (hasKey (others t) (codeOf t)))
+pub rest-of : (ts : List Token) (test : ℕ → Bool) → T (all test (others ts)) → (t : Token) → OneOf (others ts) (tagOf the-type t) → T (test (codeOf t))
+rest-of ts test h t o = subst (λ (x : ℕ). T (test x)) (tag-code t) (one-of test (others ts) h (tagOf the-type t) o)
 
-module _ (t : Token) (told : Told t) (l : Lexed) (other : OneOf (others t) (tagOf the-type (l .token))) where
+untrue : (b : Bool) → T (not b) → b ≡ false
+untrue true h = absurd h
+untrue false h = refl
+
+-- the token is not the one whose number is n
+abbrev pub Told : List Token → ℕ → Type 0
+Told ts n = T (all (λ k. not (eqb k n)) (others ts))
+
+pub other-code : (ts : List Token) (n : ℕ) → Told ts n → (t : Token) → OneOf (others ts) (tagOf the-type t) → eqb (codeOf t) n ≡ false
+other-code ts n h t o = untrue (eqb (codeOf t) n) (rest-of ts (λ k. not (eqb k n)) h t o)
+
+-- ---- readings
+
+module _ (t : Token) (told : Told (t ∷ []) (codeOf t)) (l : Lexed) (other : OneOf (others (t ∷ [])) (tagOf the-type (l .token))) where
   pub other-token : is t l ≡ false
-  other-token = ne-eqb (codeOf (l .token)) (codeOf t) (λ e. miss (others t) (codeOf t) told (subst (λ (x : ℕ). OneOf (others t) x) (tag-code (l .token) ∙ e) other))
+  other-token = other-code (t ∷ []) (codeOf t) told (l .token) other
 
   pub refused : (s : List ℕ) (g : Got) → l ≡ tokenAt s (g .end) → want t s g ≡ allow false l g
   unfolding want

@@ -1,0 +1,49 @@
+use mathlib.Core.Path.{ap}
+use borrow.Author.Tests.{eq-eqb}
+use borrow.Author.Needs.{needs}
+use Rattle.text.specs.Items.{moduleBodyAt}
+use Rattle.text.specs.declared.Token.the-variants as T
+use Rattle.text.specs.Tokens.{codeOf}
+use Rattle.wants.proofs.Others.{other-token}
+use Rattle.items.proofs.modules.body.Statement.{statement}
+use Rattle.items.proofs.modules.body.Tie as tie
+
+token-requires : tie.Need-token-requires
+token-requires c κs = search needs
+
+enum-told : tie.Need-enum-told
+enum-told c = search needs
+
+of-module-requires : tie.Need-of-module-requires
+of-module-requires c κs = search needs
+
+section-requires : tie.Need-section-requires
+section-requires c κs = search needs
+
+returns : tie.Need-returns
+unfolding moduleBodyAt
+returns c =
+    let token = c .before .before .before .token in
+    let match = c .before .before .match in
+    simp (← token .ensures, ← c .before .of-module .ensures, ← c .section .ensures, other-token T.Name tt (token .result) (match .keys2))
+
+declaration-requires : tie.Need-declaration-requires
+declaration-requires c κs = search needs
+
+returns-2 : tie.Need-returns-2
+unfolding moduleBodyAt
+returns-2 c =
+    let token = c .before .before .before .token in
+    simp (← token .ensures, ← c .declaration .ensures, eq-eqb _ 0 (ap codeOf (c .before .enum-told .given .1)))
+
+pub body-spec : {M : Type 1} → statement M
+body-spec =
+    tie.close
+    (tie.spec
+    token-requires
+    enum-told
+    of-module-requires
+    section-requires
+    returns
+    declaration-requires
+    returns-2)

@@ -1,0 +1,46 @@
+use borrow.Author.Tests.{eq-eqb, ne-eqb, lt-ltb, le-ltb}
+use borrow.Author.Needs.{needs}
+use Rattle.text.specs.Items.{portionAt}
+use Rattle.items.proofs.tasks.section.Statement.{statement}
+use Rattle.items.proofs.tasks.section.Tie as tie
+
+refused-requires : tie.Need-refused-requires
+refused-requires c κs = search needs
+
+returns : tie.Need-returns
+unfolding portionAt
+returns c = simp (← c .refused .ensures, lt-ltb _ _ (c .before .if1 .taken))
+
+end-requires : tie.Need-end-requires
+end-requires c κs = search needs
+
+returns-2 : tie.Need-returns-2
+unfolding portionAt
+returns-2 c =
+    let if1 = c .before .before .if1 in
+    simp (← c .end .ensures, le-ltb _ _ (if1 .left), eq-eqb _ _ (c .before .if2 .taken))
+
+any-requires : tie.Need-any-requires
+any-requires c κs = search needs
+
+close-requires : tie.Need-close-requires
+close-requires c κs = search needs
+
+returns-3 : tie.Need-returns-3
+unfolding portionAt
+returns-3 c =
+    let if1 = c .before .before .before .if1 in
+    let if2 = c .before .before .if2 in
+    simp (← c .before .any .ensures, ← c .close .ensures, le-ltb _ _ (if1 .left), ne-eqb _ _ (if2 .left))
+
+pub section-spec : {M : Type 1} → statement M
+section-spec =
+    tie.close
+    (tie.spec
+    refused-requires
+    returns
+    end-requires
+    returns-2
+    any-requires
+    close-requires
+    returns-3)

@@ -1,0 +1,27 @@
+// How many arguments stand between parentheses.
+ghost use mathlib.Core.Path.{_≡_};
+ghost use Rattle.text.specs.Productions.{isPart, countAt};
+ghost use Rattle.text.specs.Tokens.{codeOf};
+use text::Token;
+
+// The number of arguments behind "(", where ")" does not follow at once.
+pub fn count(s: &[u8], at: usize) -> usize
+    ensures { λ r. ⌜ r ≡ countAt (now (s .entry)) at ⌝ }
+{
+    let mut i = at;
+    let mut n = 1;
+    while i < s.len() {
+        let next = scan::token(s, i);
+        let token = next.token;
+        match token {
+            Token::Comma => {
+                n += 1;
+            }
+            Token::Name => {}
+            Token::Dot => {}
+            _ => return n,
+        }
+        i = next.end;
+    }
+    n
+}
