@@ -6,3 +6,4 @@ pub mod Views
 pub mod Kept
 pub mod Asides
 pub mod Docked
+pub mod Faithful
