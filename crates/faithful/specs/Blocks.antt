@@ -1,18 +1,17 @@
 -- What a block of a mode's code does where it stands: its front (terminations, updates, switches) and its back (releases, future, return).
-use Prim.Native.Nat.{ℕ, zero, suc, _+_, _-_, _≤_, _<_}
+use Prim.Native.Nat.{ℕ, zero, suc, _+_, _≤_}
 use native.Mathlib.Omega.{arith}
 use native.Mathlib.Nat.{add-assoc}
-use mathlib.Core.Path.{_≡_, refl, sym, _∙_, ap, subst}
-use mathlib.Core.Bool.{Bool, true, false, cond}
-use mathlib.Core.Option.{Option, none, some}
+use mathlib.Core.Path.{_≡_, refl, sym, subst}
+use mathlib.Core.Option.{Option, none}
 use mathlib.Core.List.{List, [], _∷_, _++_, append-assoc}
-use lib.ListN.{length, getD, drop, length-append}
+use lib.ListN.{length, drop, length-append}
 use Rattle.model.specs.Modules.{Module, Mode, Act, Call, Update}
-use Rattle.model.specs.Instructions.{Instr, nop, future, return}
+use Rattle.model.specs.Instructions.{Instr, nop, future}
 use Rattle.timing.specs.Slots.{closing, opening, endsAt, beginsAt}
 use Rattle.timing.specs.SlotLaws.{Each}
 use Rattle.timing.specs.Rules as R
-use Rattle.timing.specs.Rules.{Store, Outcome, well, late, chosen, terminations}
+use Rattle.timing.specs.Rules.{Store, well, late, chosen, terminations}
 use Rattle.timing.specs.Code.{Piece, _⊕_, fixed, pieces, terminating, updating, switching, releasing, drivenUpdates, drivenCalls, front, await, back}
 use Rattle.machine.specs.Instructions as E
 use Rattle.machine.specs.Instructions.{Res, ok, bad, Tally, Future, Halt, exec}

@@ -1,10 +1,10 @@
 -- A dock: the machine as a whole with its tasks by their standings, its calls check for check those of the machine (document 01, 'The machine').
 -- It stands between the rules and the machine's words: a means of proof, no definition to be believed.
-use Prim.Native.Nat.{ℕ, zero, suc, _+_, _-_}
-use mathlib.Core.Bool.{Bool, true, false, cond}
+use Prim.Native.Nat.{ℕ}
+use mathlib.Core.Bool.{cond}
 use mathlib.Core.Option.{Option, none, some}
 use mathlib.Core.List.{List, [], _∷_}
-use lib.ListN.{length, getD, set}
+use lib.ListN.{getD, set}
 use Rattle.model.specs.Clock.{elapsed, Instant, early, due, missed, judged, fits}
 use Rattle.model.specs.Modules.{Module}
 use Rattle.timing.specs.Rules.{Standing, idle, ready, running, done, Store, sensed}
@@ -17,7 +17,7 @@ use Rattle.machine.specs.declared.Turn.the-variants as T
 use Rattle.machine.specs.declared.Finishing.{Finishing}
 use Rattle.machine.specs.declared.Finishing.the-variants as F
 use Rattle.machine.specs.Instructions as E
-use Rattle.machine.specs.Instructions.{Res, ok, bad, Halt, Run, Tally}
+use Rattle.machine.specs.Instructions.{Res, ok, bad, Halt, Tally}
 use Rattle.faithful.specs.Reacts.{reacting}
 
 -- ---- answers, and what they are in the rules' words

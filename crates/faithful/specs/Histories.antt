@@ -1,41 +1,33 @@
 -- Whatever is called, in any order: a dock on the module's code answers and stands as the rules say.
-use Prim.Native.Nat.{ℕ, zero, suc, _+_, _-_, _≤_, _<_}
+use Prim.Native.Nat.{ℕ, _+_, _-_, _<_}
 use native.Mathlib.Omega.{arith}
-use native.Mathlib.Decide.{ℕ-discrete}
-use mathlib.Core.Path.{_≡_, refl, sym, _∙_, ap, ap₂, subst}
+use mathlib.Core.Path.{_≡_, refl, sym, _∙_, ap₂, subst}
 use mathlib.Core.Bool.{Bool, true, false, cond}
 use mathlib.Core.Option.{Option, none, some}
 use mathlib.Core.List.{List, [], _∷_, map}
-use lib.ListN.{length, getD, set}
-use lib.Seq.{getD-set-other}
+use lib.ListN.{getD, set}
 use lib.Dec.{ltb, eqb}
-use borrow.Author.Tests.{ltb-true, ltb-false}
-use Rattle.model.specs.Clock.{elapsed, Instant, early, due, missed, judged, fits}
-use Rattle.model.specs.Modules.{Module, Mode, Task}
+use borrow.Author.Tests.{ltb-true}
+use Rattle.model.specs.Clock.{elapsed, early, due, missed, judged, fits}
+use Rattle.model.specs.Modules.{Module}
 use Rattle.timing.specs.Slots.{liveAt}
 use Rattle.timing.specs.SlotLaws.{Each}
 use Rattle.timing.specs.Rules.{Standing, idle, ready, running, done, Store, Outcome, well, late, Place, modeAt, nextInstant, sensed, entered, instant}
 use Rattle.timing.specs.InstantLaws.{next-le, next-same, till-next}
 use Rattle.timing.specs.Accepted.{Accepted}
-use Rattle.timing.specs.Standings.{handed-ready}
+use Rattle.timing.specs.Standings.{handed-ready, beginning-idle}
 use Rattle.timing.specs.Calls as C
-use Rattle.timing.specs.Calls.{Ask, tick, next, finish, Reply, fell, View, Said, lowest, remains, readingTypes, resultTypes, answer, ask, ticked, handed, finished, startMode, beginning, started, replies, comes}
+use Rattle.timing.specs.Calls.{Ask, tick, next, finish, Reply, View, Said, lowest, remains, readingTypes, resultTypes, answer, ask, ticked, handed, finished, startMode, beginning, started, replies, comes}
 use Rattle.machine.specs.declared.Reaction.the-variants.{Fault}
 use Rattle.machine.specs.declared.Finishing.the-variants as F
 use Rattle.machine.specs.Instructions as E
 use Rattle.machine.specs.Instructions.{Res, ok, bad, Halt, Tally}
-use Rattle.faithful.specs.Tasks.{Idle, absent-if}
-use Rattle.faithful.specs.Syncs.{at, Sync, Quiet}
-use Rattle.faithful.specs.Reacts.{reacting, Follows, Agrees, reaction, beginning-run}
+use Rattle.faithful.specs.Tasks.{absent-if}
+use Rattle.faithful.specs.Held.{change}
+use Rattle.faithful.specs.Syncs.{at, Sync}
+use Rattle.faithful.specs.Outs.{Quiet}
+use Rattle.faithful.specs.Reacts.{reacting, Agrees, reaction, beginning-run}
 use Rattle.faithful.specs.Docks.{Answer, ticking, finishing, replyTo, Dock, Told, cameTo, withTasks, byInstant, handedOut, finishedBy, answered, asked, newDock, startedDock, answers, leaves}
-
--- A standing that is not idle may change: what is idle stays.
-change : (j t : ℕ) (l : List Standing) (x y : Standing) → getD l t idle ≡ x → (x ≡ idle → ⊥) → getD l j idle ≡ idle → getD (set l t y) j idle ≡ idle
-change j t l x y e n i = go (ℕ-discrete j t)
-  where
-    go : Dec (j ≡ t) → getD (set l t y) j idle ≡ idle
-    go (yes h) = absurd (n (sym e ∙ (rw h at i)))
-    go (no h) = getD-set-other l t j y idle h ∙ i
 
 -- the fault that stopped it: 40
 abbrev pub stopOf : Option ℕ → Option E.Fault
@@ -195,19 +187,10 @@ module _ (M : Module) (W : Accepted M) where
       let ih1 : Alike rest (ask M a v .view) (asked M a (shadow M v pc) .dock) = subst (Alike rest (ask M a v .view)) (sym (b .shows)) ih in
       record { same-answers = ap₂ _∷_ (b .says) (ih1 .same-answers); pc = ih1 .pc; same-view = ih1 .same-view; waiting = ih1 .waiting }
 
-  -- no task is out at the beginning
-  none-out : (readings : List ℕ) (j : ℕ) → Idle (sensed M readings (beginning M)) j
-  none-out readings j = go (M .tasks) j
-    where
-      go : (tasks : List Task) (i : ℕ) → getD (map (λ task. idle) tasks) i idle ≡ idle
-      go [] i = refl
-      go (t ∷ tasks) zero = refl
-      go (t ∷ tasks) (suc i) = go tasks i
-
   -- The start: the begin block of the start mode, obeyed, is the rules' start.
   pub start-both : (count : ℕ) (words : List ℕ) → Both M (record { reply = C.reacted; view = started M count words }) (startedDock M count words)
   unfolding started startedDock
-  start-both count words = go (reacting M (startMode M) (at M (startMode M)) (sensed M words (beginning M)) .res) (reacting M (startMode M) (at M (startMode M)) (sensed M words (beginning M)) .tally) (beginning-run M W (startMode M) (W .start) (sensed M words (beginning M)) (none-out words))
+  start-both count words = go (reacting M (startMode M) (at M (startMode M)) (sensed M words (beginning M)) .res) (reacting M (startMode M) (at M (startMode M)) (sensed M words (beginning M)) .tally) (beginning-run M W (startMode M) (W .start) (sensed M words (beginning M)) (beginning-idle M))
     where
       go : (o : Res (Halt Store)) (tally : Tally) → Agrees M (well (entered M (startMode M) 0 (sensed M words (beginning M)))) o
           → Both M (record { reply = C.reacted; view = record { place = entered M (startMode M) 0 (sensed M words (beginning M)); clock = count; stopped = none } }) (cameTo (newDock M count) count tally o)

@@ -3,7 +3,10 @@ pub mod Runs
 pub mod Tasks
 pub mod Placed
 pub mod Blocks
+pub mod Outs
+pub mod Held
 pub mod Syncs
 pub mod Reacts
 pub mod Docks
 pub mod Histories
+pub mod Counts

@@ -1,21 +1,21 @@
 -- Where the modes' code stands, and their drivers.
-use Prim.Native.Nat.{ℕ, zero, suc, _+_, _-_, _≤_, _<_}
+use Prim.Native.Nat.{ℕ, zero, suc, _+_, _≤_, _<_}
 use native.Mathlib.Omega.{arith}
 use native.Mathlib.Nat.{add-zero, zero-add}
-use mathlib.Core.Path.{_≡_, refl, sym, _∙_, ap, subst}
+use mathlib.Core.Path.{_≡_, refl, sym, _∙_, ap}
 use mathlib.Core.Bool.{Bool, true, false, cond}
-use mathlib.Core.List.{List, [], _∷_, _++_, append-assoc, append-nil, map}
+use mathlib.Core.List.{List, [], _∷_, _++_, append-assoc, map}
 use lib.ListN.{length, getD, drop, length-append, List·getD-append}
-use lib.Seq.{drop-append-seam, drop-drop, getD-drop, getD-append-seam}
-use Rattle.model.specs.Modules.{Module, Mode, Task, Act, Call, Update, each}
-use Rattle.model.specs.Instructions.{Instr, Driver, updates, releases, terminates, noDriver}
+use lib.Seq.{drop-append-seam, drop-drop, getD-drop}
+use Rattle.model.specs.Modules.{Module, Mode, Task, Act, each}
+use Rattle.model.specs.Instructions.{Instr, Driver, updates, terminates, noDriver}
 use Rattle.timing.specs.Slots.{keep, closing, opening, endsAt, beginsAt, spans}
 use Rattle.timing.specs.SlotLaws.{Each}
+pub use Rattle.timing.specs.SlotLaws.{each-keep}
 use Rattle.timing.specs.Rules.{noMode}
-use Rattle.timing.specs.Code.{Piece, _⊕_, modeCode, codeFrom, codeOf, beginsFrom, beginsOf, modeDriverCount, modeDrivers, driversOf, terminatesFrom, Driven, drivenFrom, drivenUpdates, drivenCalls}
-use Rattle.faithful.specs.Runs.{plain, plainAll, Terminates, Updates}
+use Rattle.timing.specs.Code.{modeCode, codeFrom, beginsFrom, modeDriverCount, modeDrivers, driversOf, terminatesFrom, Driven, drivenFrom}
+use Rattle.faithful.specs.Runs.{plain, plainAll}
 use Rattle.faithful.specs.Stands.{driverAt}
-use Rattle.faithful.specs.Tasks.{Releases}
 
 -- ---- code
 
@@ -107,14 +107,6 @@ plain-closing p t n acts = plain-keep (endsAt p t) (endsAt p t) (λ a. refl) (dr
 pub plain-opening : {A : Type 0} (p t n : ℕ) (acts : List (Act A)) → plainAll (opening p t (drivenFrom n acts)) ≡ opening p t acts
 unfolding spans
 plain-opening p t n acts = plain-keep (beginsAt p t) (beginsAt p t) (λ a. refl) (drivenFrom n acts) ∙ ap (λ (l : List (Act _)). keep (beginsAt p t) l) (plain-driven n acts)
-
-pub each-keep : {A : Type 0} (C : A → Type 0) (f : A → Bool) (l : List A) → Each C l → Each C (keep f l)
-each-keep C f [] e = tt
-each-keep C f (a ∷ l) e = go (f a) (each-keep C f l (e .1))
-  where
-    go : (y : Bool) → Each C (keep f l) → Each C (cond y (a ∷ keep f l) (keep f l))
-    go true r = (e .0, r)
-    go false r = r
 
 -- The drivers of mode k stand from its first driver on.
 pub drivers-at : (drivers : List Driver) (n : ℕ) (ms : List Mode) (k : ℕ) (r : List Driver) → k < length ms → drop n drivers ≡ each modeDrivers ms ++ r

@@ -1,30 +1,29 @@
 -- One reaction of the machine over standings is one instant of the rules.
-use Prim.Native.Nat.{ℕ, zero, suc, _+_, _-_, _≤_, _<_}
+use Prim.Native.Nat.{ℕ, suc, _+_, _-_, _≤_, _<_}
 use native.Mathlib.Omega.{arith}
 use mathlib.Core.Path.{_≡_, refl, sym, _∙_, ap, subst}
-use mathlib.Core.Logic.{_≢_}
-use mathlib.Core.Bool.{Bool, true, false, cond}
+use mathlib.Core.Bool.{Bool, cond}
 use mathlib.Core.Option.{Option, none, some}
 use mathlib.Core.List.{List, [], _∷_, _++_, append-assoc}
-use lib.ListN.{length, getD, drop, length-append}
+use lib.ListN.{length, drop, length-append}
 use lib.Dec.{eqb}
 use borrow.Author.Tests.{eq-eqb, ne-eqb}
-use Rattle.model.specs.Modules.{Module, Mode, Act, Call, Update}
+use Rattle.model.specs.Modules.{Module, Mode}
 use Rattle.model.specs.Instructions.{Instr, jump}
-use Rattle.timing.specs.Slots.{keep, closing, opening, endsAt, beginsAt, liveAt, amidAt}
-use Rattle.timing.specs.SlotLaws.{Each, each-zip, Fits, Midst, staysAt, midst-live, midst-begins, midst-before}
+use Rattle.timing.specs.Slots.{closing, opening}
 use Rattle.timing.specs.Rules as R
-use Rattle.timing.specs.Rules.{Standing, Store, Outcome, well, late, Place, modeAt, nextInstant, passes, chosen, terminations, sensed, entered, turned, afterEnds, instant}
-use Rattle.timing.specs.InstantLaws.{first-instant, instants-cons, at-next}
-use Rattle.timing.specs.Accepted.{Absent, Leads, Accepted}
+use Rattle.timing.specs.Rules.{Store, Outcome, well, late, Place, modeAt, nextInstant, chosen, terminations, sensed, entered, turned, afterEnds, instant}
+use Rattle.timing.specs.InstantLaws.{first-instant, instants-cons}
+use Rattle.timing.specs.Accepted.{Accepted}
 use Rattle.timing.specs.Code.{codeOf, beginsOf, modeCode, front, laterBlocks, instantsOf, firstOr}
 use Rattle.machine.specs.Instructions as E
-use Rattle.machine.specs.Instructions.{Fault, Res, ok, bad, Halt, Run, Tally, noTally, step, exec}
+use Rattle.machine.specs.Instructions.{Fault, Res, ok, bad, Halt, Run, noTally, step, exec}
 use Rattle.faithful.specs.Stands.{standOps, acts, update, acts-updates, withPorts}
 use Rattle.faithful.specs.Runs.{Ends, stepped}
-use Rattle.faithful.specs.Tasks.{Idle, Free, left-out, updates-keep, distinct-keep, absent-if, absent-split, absent-none, idle-others}
+use Rattle.faithful.specs.Tasks.{Idle, Free, updates-keep}
 use Rattle.faithful.specs.Blocks.{front-run, front-late, back-ends}
-use Rattle.faithful.specs.Syncs.{base, at, code, firstDistance, beginBlock, size, Quiet, Sync, begun, within, begin-size, room, driving, fresh, behindFront, backBlock, lastBlocks, block-here, back-here, block-high, advance, advance-soon, quiet-after, free-begin}
+use Rattle.faithful.specs.Syncs.{base, at, code, firstDistance, beginBlock, size, Sync, begun, within, begin-size, room, driving, fresh, behindFront, backBlock, lastBlocks, block-here, back-here, block-high, advance, advance-soon}
+use Rattle.faithful.specs.Outs.{Quiet, quiet-after, free-begin, nobody-switch, nobody-wrap, free-inside, quiet-inside}
 
 module _ (M : Module) where
   -- One reaction over standings, from the instruction at pc on: at most as many instructions as the code holds.
@@ -74,28 +73,6 @@ module _ (M : Module) where
           let h = block-high M k time pc S t1 later e in
           rw et1 (_, block-here M k time pc S t1 later e, omega arith)
 
-  -- The switch that is taken is one of the mode's, at an end of its slot.
-  picked : (p t n : ℕ) (calls : List (Act Call)) (switches : List (Act ℕ)) (ports : List ℕ) (j : ℕ) → Each (Leads p n calls) switches → chosen M (closing p t switches) ports ≡ some j
-      → (j < n) × Each (λ c. amidAt p t c ≡ false) calls
-  picked p t n calls [] ports j l e = let z : _≡_ {A = ℕ} 0 1 = cc in absurd (omega arith)
-  picked p t n calls (a ∷ rest) ports j l e = go (endsAt p t a) refl (passes M (a .guard) ports) refl (λ h. picked p t n calls rest ports j (l .1) h)
-    where
-      go : (y : Bool) → endsAt p t a ≡ y → (z : Bool) → passes M (a .guard) ports ≡ z → (chosen M (closing p t rest) ports ≡ some j → (j < n) × Each (λ c. amidAt p t c ≡ false) calls) → (j < n) × Each (λ c. amidAt p t c ≡ false) calls
-      go false b z c ih = ih (rw b at e)
-      go true b true c ih = let h : some (a .what) ≡ some j = rw c at (rw b at e) in let h1 : a .what ≡ j = cc in (rw (← h1) (l .0 .target), l .0 .clear t b)
-      go true b false c ih = ih (rw c at (rw b at e))
-
-bar : (t time p : ℕ) (c : Act Call) → Fits p c → Midst p time t c → beginsAt p t c ≡ true → staysAt p time t c ≡ false
-bar t time p c f m h = go (staysAt p time t c) refl
-  where
-    go : (y : Bool) → staysAt p time t c ≡ y → y ≡ false
-    go false e = refl
-    go true e = let k = midst-begins p t c f (m e) in cc
-
-every : (l : List (Act Call)) → Each (λ a. Unit {0}) l
-every [] = tt
-every (a ∷ l) = (tt, every l)
-
 module _ (M : Module) (W : Accepted M) where
   land : (j : ℕ) → j < length (M .modes) → (s : Store) → Free (opening (modeAt M j .period) 0 (modeAt M j .calls)) s
       → Ends M (beginsOf M) (codeOf M) (drop (at M j) (code M)) j none s (length (beginBlock M j)) (ok (beginHalt M j s))
@@ -131,28 +108,12 @@ module _ (M : Module) (W : Accepted M) where
         meets M (late x) pc k (length frontHere) s (bad (E.late x)) (frontHere ++ r) h (front-late M (beginsOf M) (codeOf M) (base M k) m (driving M W k (S .known)) t k pc s x r none q) (omega arith) refl
 
     module _ (s1 : Store) (q1 : terminations M (closing p t (m .calls)) s ≡ well s1) (s2 : Store) (q2 : acts M (update M) (closing p t (m .updates)) s1 ≡ s2) where
-      idle-after : (j : ℕ) → Idle s1 j → Idle s2 j
-      idle-after j h = let e : s2 .tasks ≡ s1 .tasks = rw (← q2) (updates-keep M (closing p t (m .updates)) s1) in rw e h
-
-      -- After the terminations only tasks are out whose slot goes on.
-      on : (j : ℕ) → Absent j (keep (staysAt p time t) (m .calls)) → Idle s2 j
-      on j h =
-          idle-after j (left-out M (closing p t (m .calls)) s s1 q1 (λ i. Absent i (keep (staysAt p time t) (m .calls)))
-          (λ i a b. Q i (absent-split (liveAt p time) (endsAt p t) i (m .calls) a b)) j h)
-
-      mid : Each (Midst p time t) (m .calls)
-      mid = at-next m time t (S .before) et
-
-      no-one : Each (λ c. amidAt p t c ≡ true → ⊥) (m .calls) → (j : ℕ) → Idle s2 j
-      no-one w j =
-          on j (absent-none (staysAt p time t) j (m .calls)
-          (each-zip (Midst p time t) (λ c. amidAt p t c ≡ true → ⊥) (λ c. staysAt p time t c ≡ true → ⊥) (λ c a b h. b (a h)) (m .calls) mid w))
+      same : s2 .tasks ≡ s1 .tasks
+      same = rw (← q2) (updates-keep M (closing p t (m .updates)) s1)
 
       case-switch : (j : ℕ) → chosen M (closing p t (m .switches)) (s2 .ports) ≡ some j → Agrees M (well (entered M j 0 s2)) (reacting M k pc s .res)
       case-switch j q3 =
-          let (lt, cl) = picked M p t (length (M .modes)) (m .calls) (m .switches) (s2 .ports) j (W .modes k (S .known) .leads) q3 in
-          let nobody : (i : ℕ) → Idle s2 i =
-          no-one (each-zip (λ c. amidAt p t c ≡ false) (λ c. amidAt p t c ≡ false) (λ c. amidAt p t c ≡ true → ⊥) (λ c a _ b. let z : _≡_ {A = ℕ} 0 1 = cc in omega arith) (m .calls) cl cl) in
+          let (lt, nobody) = nobody-switch M W k time t (S .known) (S .before) et s s1 s2 Q q1 same j q3 in
           let (r, h, hi) = at-front M k time pc t S et in
           meets M (well (entered M j 0 s2)) pc k (length frontHere + length (beginBlock M j)) s (ok (beginHalt M j s2)) (frontHere ++ r) h
           (front-run M (beginsOf M) (codeOf M) (base M k) m (driving M W k (S .known)) t k pc s s1 r none (length (beginBlock M j)) (ok (beginHalt M j s2)) h q1 s2 q2 (some j) q3 (land j lt s2 (free-begin M W j lt s2 nobody)))
@@ -163,9 +124,7 @@ module _ (M : Module) (W : Accepted M) where
         case-wrap : S .left ≡ [] → t ≡ p → Agrees M (well (entered M k 0 s2)) (reacting M k pc s .res)
         unfolding laterBlocks exec
         case-wrap e et1 =
-            let fit = W .modes k (S .known) .lasting .calls-fit in
-            let nobody : (i : ℕ) → Idle s2 i = no-one (each-zip (Fits p) (Fits p) (λ c. amidAt p t c ≡ true → ⊥) (λ c f _ b. let h = midst-before p t c f b in omega arith) (m .calls) fit fit) in
-            let back-to : List Instr = jump (at M k) ∷ [] in
+            let nobody = nobody-wrap M W k time t (S .known) (S .before) et s s1 s2 Q q1 same et1 in
             let endFront = front (base M k) m p pc in
             let h0 : drop pc (code M) ≡ (endFront ++ (jump (at M k) ∷ [])) ++ S .rest = rw e at (S .here) in
             let h : drop pc (code M) ≡ frontHere ++ (jump (at M k) ∷ S .rest) = rw et1 (h0 ∙ append-assoc endFront (jump (at M k) ∷ []) (S .rest)) in
@@ -181,16 +140,8 @@ module _ (M : Module) (W : Accepted M) where
         case-inside : (later : List ℕ) → S .left ≡ t ∷ later → Agrees M (well (entered M k t s2)) (reacting M k pc s .res)
         unfolding entered
         case-inside later e =
-            let fit = W .modes k (S .known) .lasting .calls-fit in
-            let bars : Each (λ c. beginsAt p t c ≡ true → staysAt p time t c ≡ false) (m .calls) =
-            each-zip (Fits p) (Midst p time t) (λ c. beginsAt p t c ≡ true → staysAt p time t c ≡ false) (bar t time p) (m .calls) fit mid in
-            let lives : Each (λ c. staysAt p time t c ≡ true → liveAt p t c ≡ true) (m .calls) =
-            each-zip (Fits p) (Midst p time t) (λ c. staysAt p time t c ≡ true → liveAt p t c ≡ true) (λ c f a h. midst-live p t c (a h)) (m .calls) fit mid in
-            let free : Free (opening p t (m .calls)) s2 = (
-              distinct-keep (beginsAt p t) (m .calls) (W .modes k (S .known) .distinct),
-              idle-others (staysAt p time t) (beginsAt p t) s2 (m .calls) (λ j. Unit {0}) (every (m .calls)) (W .modes k (S .known) .distinct) bars (λ j _ h. on j h),
-            ) in
-            let quiet : Quiet M k t s2 = λ j h. on j (absent-if (staysAt p time t) (liveAt p t) j (m .calls) lives h) in
+            let free = free-inside M W k time t (S .known) (S .before) et s s1 s2 Q q1 same in
+            let quiet = quiet-inside M W k time t (S .known) (S .before) et s s1 s2 Q q1 same in
             let o1 = backBlock M k time pc S t later e in
             let p1 = behindFront M k time pc S t later e in
             let d1 = firstOr p later - t in

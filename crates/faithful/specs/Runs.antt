@@ -1,22 +1,22 @@
 -- What a piece of code does where it stands.
-use Prim.Native.Nat.{ℕ, zero, suc, _+_, _-_, _≤_, _<_}
+use Prim.Native.Nat.{ℕ, zero, suc, _+_, _≤_}
 use native.Mathlib.Omega.{arith}
 use native.Mathlib.Nat.{add-assoc}
 use mathlib.Core.Path.{_≡_, refl, sym, _∙_, ap}
 use mathlib.Core.Bool.{Bool, true, false, cond}
 use mathlib.Core.Option.{Option, none, some}
-use mathlib.Core.List.{List, [], _∷_, _++_, append-assoc, map}
+use mathlib.Core.List.{List, [], _∷_, _++_, append-assoc}
 use lib.ListN.{length, getD, drop, length-append}
 use lib.Seq.{drop-append-seam, drop-drop}
 use Rattle.model.specs.Modules.{Module, Act, Call, Update}
-use Rattle.model.specs.Instructions.{Instr, nop, future, call, release, iff, jump, return, switch, Driver, updates, releases, terminates}
+use Rattle.model.specs.Instructions.{Instr, nop, call, iff, switch, updates, terminates}
 use Rattle.timing.specs.SlotLaws.{Each}
 use Rattle.timing.specs.Rules as R
-use Rattle.timing.specs.Rules.{Standing, idle, ready, running, done, Store, Outcome, well, late, passes, chosen, terminations}
-use Rattle.timing.specs.Code.{Piece, _⊕_, fixed, guarded, pieces, terminating, Driven, updating, switching, releasing}
+use Rattle.timing.specs.Rules.{Store, Outcome, well, late, passes, chosen, terminations}
+use Rattle.timing.specs.Code.{Piece, _⊕_, fixed, guarded, pieces, terminating, Driven, updating, switching}
 use Rattle.machine.specs.Instructions as E
-use Rattle.machine.specs.Instructions.{Res, ok, bad, clash, Tally, step, counted, Future, Halt, Run, exec}
-use Rattle.faithful.specs.Stands.{resOf, standing, driven, driverAt, standOps, acts, update, withPorts}
+use Rattle.machine.specs.Instructions.{Res, ok, bad, Tally, step, counted, Future, Halt, Run, exec}
+use Rattle.faithful.specs.Stands.{resOf, standing, driven, driverAt, standOps, acts, update}
 
 -- an activity without its driver's number
 abbrev pub plain : {A : Type 0} → Act (Driven A) → Act A

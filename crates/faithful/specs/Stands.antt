@@ -1,10 +1,9 @@
 -- The machine's instructions over the rules' own store: tasks by their standings, drivers and guards of the module.
-use Prim.Native.Nat.{ℕ, zero, suc}
-use mathlib.Core.Path.{_≡_, refl, sym, _∙_, ap}
+use Prim.Native.Nat.{ℕ}
+use mathlib.Core.Path.{_≡_, refl}
 use mathlib.Core.Bool.{Bool, true, false, cond}
-use mathlib.Core.Option.{Option, none, some}
-use mathlib.Core.List.{List, [], _∷_, _++_, map}
-use lib.ListN.{length, getD, set}
+use mathlib.Core.List.{List, [], _∷_}
+use lib.ListN.{getD, set}
 use Rattle.model.specs.Values.{holds, noGuard}
 use Rattle.model.specs.Modules.{Module, Act, Call, Update, copyTo}
 use Rattle.model.specs.Instructions.{Driver, updates, releases, terminates, noDriver}

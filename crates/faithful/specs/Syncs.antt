@@ -1,27 +1,21 @@
--- Where a machine waits that keeps up with the rules: which block is next (Sync) and which tasks can be out (Quiet).
-use Prim.Native.Nat.{ℕ, zero, suc, _+_, _-_, _≤_, _<_}
+-- Where a machine waits that keeps up with the rules: which block is next.
+use Prim.Native.Nat.{ℕ, suc, _+_, _-_, _≤_, _<_}
 use native.Mathlib.Omega.{arith}
-use native.Mathlib.Nat.{add-zero}
 use mathlib.Core.Path.{_≡_, refl, sym, _∙_, ap, subst}
-use mathlib.Core.Bool.{Bool, true, false, cond}
-use mathlib.Core.Option.{Option, none, some}
+use mathlib.Core.Bool.{Bool, true, false}
 use mathlib.Core.List.{List, [], _∷_, _++_, append-assoc, append-nil, map}
 use lib.ListN.{length, getD, drop, length-append}
 use lib.Seq.{drop-append-seam}
 use lib.Dec.{ltb}
 use borrow.Author.Tests.{ltb-true, ltb-false}
-use Rattle.model.specs.Modules.{Module, Mode, Task, Act, Call, Update, each}
-use Rattle.model.specs.Instructions.{Instr, Driver, updates, releases, noDriver}
-use Rattle.timing.specs.Slots.{keep, opening, beginsAt, liveAt}
-use Rattle.timing.specs.SlotLaws.{Each, each-zip, Fits, begun-live}
-use Rattle.timing.specs.Rules as R
-use Rattle.timing.specs.Rules.{Store, noMode, modeAt, nextInstant}
+use Rattle.model.specs.Modules.{Module, Task, Act, Call, Update, each}
+use Rattle.model.specs.Instructions.{Instr, updates, releases}
+use Rattle.timing.specs.SlotLaws.{Each, each-zip}
+use Rattle.timing.specs.Rules.{modeAt, nextInstant}
 use Rattle.timing.specs.InstantLaws.{first-instant, instants-cons, next-after}
-use Rattle.timing.specs.Accepted.{Absent, Distinct, Accepted}
-use Rattle.timing.specs.Code.{codeFrom, codeOf, beginsFrom, beginsOf, modeCode, back, front, laterBlocks, instantsFrom, instantsOf, firstOr, modeDrivers, driversOf, terminatesFrom, drivenUpdates, drivenCalls}
-use Rattle.faithful.specs.Stands.{acts, acts-releases}
+use Rattle.timing.specs.Accepted.{Accepted}
+use Rattle.timing.specs.Code.{codeOf, beginsOf, modeCode, back, front, laterBlocks, instantsFrom, instantsOf, firstOr, modeDrivers, driversOf, terminatesFrom}
 use Rattle.faithful.specs.Runs.{Terminates}
-use Rattle.faithful.specs.Tasks.{Idle, Free, begins-keep, all-idle, absent-if, distinct-keep}
 use Rattle.faithful.specs.Placed.{basesFrom, past, placed, apart, below, drivers-at, numbered, terminates-at}
 use Rattle.faithful.specs.Blocks.{Driving}
 
@@ -45,10 +39,6 @@ module _ (M : Module) where
 
   abbrev pub size : ℕ → ℕ
   size k = length (modeCode (base k) (modeAt M k) (at k))
-
-  -- At time t of mode k every task is idle but those with a slot in force.
-  abbrev pub Quiet : ℕ → ℕ → Store → Type 0
-  Quiet k t s = (j : ℕ) → Absent j (keep (liveAt (modeAt M k .period) t) (modeAt M k .calls)) → Idle s j
 
   -- A machine that waits at pc is the rules' mode k at time t: there stand the blocks of the instants that are left.
   pub record Sync (k t pc : ℕ) : Type 0 where
@@ -198,19 +188,3 @@ module _ (M : Module) (W : Accepted M) where
         low = omega arith;
         high = rw length-append (omega arith);
       }
-
-  -- ---- who is out
-
-  -- Releases at t leave those tasks idle that have no slot in force at t.
-  pub quiet-after : (j t : ℕ) → j < length (M .modes) → (s : Store) → Quiet M j t s → Quiet M j t (R.releases M (opening (modeAt M j .period) t (modeAt M j .calls)) s)
-  quiet-after j t h s q i ab =
-      let p = modeAt M j .period in
-      let fit = W .modes j h .lasting .calls-fit in
-      let w : Each (λ a. beginsAt p t a ≡ true → liveAt p t a ≡ true) (modeAt M j .calls) =
-      each-zip (Fits p) (Fits p) (λ a. beginsAt p t a ≡ true → liveAt p t a ≡ true) (λ a f _ b. begun-live p t a f b) (modeAt M j .calls) fit fit in
-      let e : acts M (R.begun M) (opening p t (modeAt M j .calls)) s ≡ R.releases M (opening p t (modeAt M j .calls)) s = acts-releases M (opening p t (modeAt M j .calls)) s in
-      subst (λ (v : Store). Idle v i) e (begins-keep M (opening p t (modeAt M j .calls)) s i (absent-if (beginsAt p t) (liveAt p t) i (modeAt M j .calls) w ab) ∙ q i ab)
-
-  -- Where no task is out, the releases at a mode's time 0 are free.
-  pub free-begin : (j : ℕ) → j < length (M .modes) → (s : Store) → ((i : ℕ) → Idle s i) → Free (opening (modeAt M j .period) 0 (modeAt M j .calls)) s
-  free-begin j h s q = (distinct-keep (beginsAt (modeAt M j .period) 0) (modeAt M j .calls) (W .modes j h .distinct), all-idle (opening (modeAt M j .period) 0 (modeAt M j .calls)) s q)

@@ -1,26 +1,25 @@
 -- Which tasks are out: what terminations, updates and releases leave.
-use Prim.Native.Nat.{ℕ, zero, suc, _+_, _≤_, _<_}
+use Prim.Native.Nat.{ℕ}
 use native.Mathlib.Omega.{arith}
 use native.Mathlib.Decide.{ℕ-discrete}
-use mathlib.Core.Path.{_≡_, refl, sym, _∙_, ap, subst}
+use mathlib.Core.Path.{_≡_, refl, sym, _∙_, subst}
 use mathlib.Core.Logic.{_≢_}
 use mathlib.Core.Bool.{Bool, true, false, cond}
-use mathlib.Core.Option.{Option, none, some}
 use mathlib.Core.List.{List, [], _∷_, _++_}
-use lib.ListN.{length, getD, set}
+use lib.ListN.{getD, set}
 use lib.Seq.{getD-set-other}
-use Rattle.model.specs.Modules.{Module, Act, Call, Update, place, copyTo}
-use Rattle.model.specs.Instructions.{Instr, call, release, releases, updates, terminates}
+use Rattle.model.specs.Modules.{Module, Act, Call, Update, copyTo}
+use Rattle.model.specs.Instructions.{Instr, release, releases}
 use Rattle.timing.specs.Slots.{keep}
 use Rattle.timing.specs.SlotLaws.{Each}
 use Rattle.timing.specs.Accepted.{Absent, Distinct}
 use Rattle.timing.specs.Standings.{terminated, split}
 use Rattle.timing.specs.Rules as R
-use Rattle.timing.specs.Rules.{Standing, idle, ready, running, done, Store, Outcome, well, late, passes, terminations, outputsOf, inputsOf}
+use Rattle.timing.specs.Rules.{Standing, idle, ready, Store, well, passes, terminations, inputsOf}
 use Rattle.timing.specs.Code.{fixed, pieces, Driven, releasing}
-use Rattle.machine.specs.Instructions.{step, counted, exec}
-use Rattle.faithful.specs.Stands.{standing, driverAt, standOps, acts, update, withPorts}
-use Rattle.faithful.specs.Runs.{Does, stepped, weaken, all, plain, plainAll}
+use Rattle.machine.specs.Instructions.{counted, exec}
+use Rattle.faithful.specs.Stands.{driverAt, standOps, acts, update, withPorts}
+use Rattle.faithful.specs.Runs.{Does, stepped, weaken, all, plainAll}
 
 abbrev pub Idle : Store → ℕ → Type 0
 Idle s t = getD (s .tasks) t idle ≡ idle
@@ -33,7 +32,7 @@ abbrev pub Free : List (Act Call) → Store → Type 0
 Free rest s = Distinct rest × AllIdle rest s
 
 -- a change of another task leaves them
-set-free : (rest : List (Act Call)) (s : Store) (ports : List ℕ) (t : ℕ) (v : Standing) → Absent t rest → AllIdle rest s → AllIdle rest (record { ports = ports; tasks = set (s .tasks) t v })
+pub set-free : (rest : List (Act Call)) (s : Store) (ports : List ℕ) (t : ℕ) (v : Standing) → Absent t rest → AllIdle rest s → AllIdle rest (record { ports = ports; tasks = set (s .tasks) t v })
 set-free [] s ports t v h i = tt
 set-free (a ∷ rest) s ports t v h i = (getD-set-other (s .tasks) t (a .what .task) v idle (λ e. h .0 (sym e)) ∙ i .0, set-free rest s ports t v (h .1) (i .1))
 

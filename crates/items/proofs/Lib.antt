@@ -1,1 +1,1 @@
-mod Going
+pub mod Going

@@ -32,7 +32,7 @@ dock code =
       drivers = terminates 0 ∷ updates 3 1 ∷ releases 0 (0 ∷ []) ∷ [];
       guards = [];
       modes = record { name = bytes "m"; start = 1; period = 5000; begin = 0 } ∷ [];
-      code = code
+      code = code;
     }
 
 bikes : Table
@@ -59,7 +59,7 @@ in-time : T (
     && ((let r = tick (boardOf bikes) finished 4294967000 (int ∷ []) (1 ∷ []) in sees (reactionMeans (r .answer)) (r .state) 0 0 3000 (7 ∷ 0 ∷ 7 ∷ 10 ∷ []))
     && ((let r = tick (boardOf bikes) finished 2704 (int ∷ []) (9 ∷ []) in sees (reactionMeans (r .answer)) (r .state) 0 9 5000 (9 ∷ 8 ∷ 9 ∷ 8 ∷ []))
     && (let r = tick (boardOf bikes) finished 2705 (int ∷ []) (9 ∷ []) in sees (reactionMeans (r .answer)) (r .state) 33 0 5000 (7 ∷ 0 ∷ 7 ∷ 10 ∷ [])))))
-  )
+    )
 unfolding opened same dock bikes sees begun handed finished portTypes portStarts fits holds boardOf lowestFrom exec reaction reacted tick nextTask finish start
 in-time = tt
 
@@ -81,6 +81,6 @@ faults : T (
     && (eqb (startsWith (release 0 ∷ release 0 ∷ return ∷ [])) 43
     && (eqb (startsWith (call 0 ∷ future 0 1 ∷ return ∷ [])) 0
     && eqb (startsWith (call 3 ∷ [])) 30))))))
-  )
+    )
 unfolding opened same dock startsWith portTypes portStarts fits holds boardOf exec reaction reacted start
 faults = tt

@@ -4,6 +4,7 @@ pub mod Boards
 pub mod Instructions
 pub mod Store
 pub mod Calls
+pub mod CallLaws
 pub mod Starts
 pub mod Answers
 pub mod Cases

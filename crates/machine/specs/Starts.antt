@@ -14,20 +14,30 @@ use Rattle.machine.specs.Calls.{State, Ticked, reacted, readingTypes}
 abbrev pub fresh : Board → ℕ → State
 fresh b count =
     record {
-      clock = count; remaining = 0; mode = b .start; pc = getD (b .begins) (b .start) 0;
+      clock = count;
+      remaining = 0;
+      mode = b .start;
+      pc = getD (b .begins) (b .start) 0;
       store = record { ports = b .starts; out = 0; waiting = 0; finished = 0 };
       aside = replicate asideRoom 0;
-      stopped = false; fault = 0; late = 0
+      stopped = false;
+      fault = 0;
+      late = 0;
     }
 
 -- A refused start makes no machine: what stands in its place is stopped and empty.
 abbrev pub noMachine : State
 noMachine =
     record {
-      clock = 0; remaining = 0; mode = 0; pc = 0;
+      clock = 0;
+      remaining = 0;
+      mode = 0;
+      pc = 0;
       store = record { ports = replicate boardRoom 0; out = 0; waiting = 0; finished = 0 };
       aside = replicate asideRoom 0;
-      stopped = true; fault = 0; late = 0
+      stopped = true;
+      fault = 0;
+      late = 0;
     }
 
 abbrev pub startOn : Bool → Board → ℕ → List ℕ → List ℕ → Ticked

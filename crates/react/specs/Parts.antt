@@ -35,14 +35,14 @@ module _ (words : List ℕ) (from n : ℕ) (i : ℕ) where
   abbrev pub left : List ℕ
   left = part words (from + i) (n - i)
 
-  left-on : i < n → left ≡ getD words (from + i) 0 ∷ part words (from + (i + 1)) (n - (i + 1))
+  pub left-on : i < n → left ≡ getD words (from + i) 0 ∷ part words (from + (i + 1)) (n - (i + 1))
   left-on within =
       let place-count : from + i + 1 ≡ from + (i + 1) = omega arith in
       let count : n - i - 1 ≡ n - (i + 1) = omega arith in
       part-first words (from + i) (n - i) (omega arith)
       ∙ ap₂ (λ (k m : ℕ). getD words (from + i) 0 ∷ part words k m) place-count count
 
-  left-none : n ≤ i → left ≡ []
+  pub left-none : n ≤ i → left ≡ []
   left-none past = let count : n - i ≡ 0 = omega arith in ap (λ (k : ℕ). part words (from + i) k) count
 
   pub part-on : (to : ℕ) (ports : List ℕ) → i < n

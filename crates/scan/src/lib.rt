@@ -2,10 +2,8 @@
 // Promises that each function answers what the definitions of text say, at every place, also behind the end.
 // Builds on text and model.
 ghost use mathlib.Core.Path.{_≡_};
-ghost use mathlib.Core.Bool.{cond, false};
-ghost use lib.ListN.{getD};
-ghost use lib.Dec.{eqb};
-ghost use Rattle.text.specs.Tokens.{codeOf, signToken, startsAt, tokenAt, codeAt, stands as standsAt};
+ghost use Rattle.text.specs.Tokens.{codeOf, signToken, lexed, startsAt, tokenAt, codeAt, stands as standsAt};
+ghost use Rattle.scan.specs.Runs.{colonEquals};
 use text::Lexed;
 use text::Skipped;
 use text::Token;
@@ -85,7 +83,7 @@ fn sign(b: u8) -> Token
 
 // Whether b and the byte at a place behind it are `:=`.
 fn becomes(s: &[u8], next: usize, b: u8) -> bool
-    ensures { λ r. ⌜ r ≡ cond (eqb b 58) (eqb (getD (now (s .entry)) next 0) 61) false ⌝ }
+    ensures { λ r. ⌜ r ≡ colonEquals (now (s .entry)) next b ⌝ }
 {
     if b != b':' {
         return false;
@@ -96,49 +94,36 @@ fn becomes(s: &[u8], next: usize, b: u8) -> bool
     false
 }
 
+fn found(token: Token, start: usize, end: usize) -> Lexed
+    ensures { λ r. ⌜ r ≡ lexed token start end ⌝ }
+{
+    Lexed {
+        token: token,
+        start: start,
+        end: end,
+    }
+}
+
 // The token that starts at a place; the end behind the last byte.
 fn starts_at(s: &[u8], at: usize) -> Lexed
     ensures { λ r. ⌜ r ≡ startsAt (now (s .entry)) at ⌝ }
 {
     if s.len() <= at {
-        return Lexed {
-            token: Token::End,
-            start: at,
-            end: at,
-        };
+        return found(Token::End, at, at);
     }
     let b = s[at];
     let next = at + 1;
     if words::is_letter(b) {
         let end = words::run_end(s, next, false);
-        let t = keys::word_token(s, at, end);
-        return Lexed {
-            token: t,
-            start: at,
-            end: end,
-        };
+        return found(keys::word_token(s, at, end), at, end);
     }
     if words::is_digit(b) {
-        let end = words::run_end(s, next, true);
-        return Lexed {
-            token: Token::Number,
-            start: at,
-            end: end,
-        };
+        return found(Token::Number, at, words::run_end(s, next, true));
     }
     if becomes(s, next, b) {
-        return Lexed {
-            token: Token::Becomes,
-            start: at,
-            end: next + 1,
-        };
+        return found(Token::Becomes, at, next + 1);
     }
-    let t = sign(b);
-    Lexed {
-        token: t,
-        start: at,
-        end: next,
-    }
+    found(sign(b), at, next)
 }
 
 // The token at a place of the text, behind white space and comments.
@@ -147,11 +132,7 @@ pub fn token(s: &[u8], at: usize) -> Lexed
 {
     match spaces::skip(s, at) {
         Skipped::Stop(place) => starts_at(s, place),
-        Skipped::Open(place) => Lexed {
-            token: Token::Bad,
-            start: place,
-            end: place,
-        },
+        Skipped::Open(place) => found(Token::Bad, place, place),
     }
 }
 

@@ -1,5 +1,5 @@
 -- Causality: what is shown up to a call does not depend on later calls; a reading enters only at a due tick; a result only where a slot of its task ends.
-use Prim.Native.Nat.{ℕ, zero, suc, _+_, _-_}
+use Prim.Native.Nat.{ℕ, zero, suc, _-_}
 use native.Mathlib.Omega.{arith}
 use mathlib.Core.Path.{_≡_, refl, sym, _∙_, ap, ap₂, subst}
 use mathlib.Core.Logic.{_≢_}
@@ -9,12 +9,12 @@ use mathlib.Core.List.{List, [], _∷_, _++_}
 use lib.ListN.{length, getD, take, set}
 use lib.Dec.{eqb, ltb}
 use borrow.Author.Tests.{ne-eqb, eqb-true}
-use Rattle.model.specs.Clock.{elapsed, Instant, early, due, missed, judged, fits}
-use Rattle.model.specs.Modules.{Module, Act, Call, place}
+use Rattle.model.specs.Clock.{elapsed, early, due, missed, judged, fits}
+use Rattle.model.specs.Modules.{Module, place}
 use Rattle.timing.specs.SlotLaws.{Each}
 use Rattle.timing.specs.Rules.{Standing, idle, ready, running, done, Store, Outcome, well, late, Place, outputsOf, ended}
-use Rattle.timing.specs.Calls.{Ask, tick, next, finish, Reply, waits, reacted, refused, fell, given, taken, View, Said, lowest, readingTypes, resultTypes, remains, stay, stands, cameTo, ticked, handed, finished, answer, ask, replies, comes}
-use Rattle.timing.specs.Ticks.{Taken, Due, nextTime, atNext}
+use Rattle.timing.specs.Calls.{Ask, tick, next, finish, Reply, refused, fell, given, View, Said, lowest, readingTypes, resultTypes, remains, stay, cameTo, ticked, handed, finished, answer, ask, replies, comes}
+use Rattle.timing.specs.Ticks.{nextTime, atNext}
 use Rattle.timing.specs.Lates.{endingNext}
 use Rattle.timing.specs.Related.{Rel, Same, OnBoth, put, instant-rel}
 

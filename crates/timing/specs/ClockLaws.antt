@@ -1,5 +1,5 @@
 -- What the elapsed time is, of a clock of 32 bits that runs over: the one number below 2^32 that leads from one count to the other.
-use Prim.Native.Nat.{ℕ, _+_, _%_, _^_, _≤_, _<_}
+use Prim.Native.Nat.{ℕ, _+_, _%_, _^_, _<_}
 use native.Mathlib.Omega.{arith}
 use mathlib.Core.Path.{_≡_}
 use Rattle.model.specs.Clock.{elapsed}

@@ -13,7 +13,7 @@ use lib.Dec.{eqb}
 use borrow.Author.Tests.{eq-eqb, ne-eqb}
 use Rattle.model.specs.Modules.{Module, Act, Call}
 use Rattle.timing.specs.Slots.{closing, opening}
-use Rattle.timing.specs.Rules.{Standing, idle, ready, running, done, Store, Outcome, well, late, Place, modeAt, passes, chosen, sensed, terminations, updates, begun, releases, releasedBy, entered, turned, afterEnds, instant}
+use Rattle.timing.specs.Rules.{Standing, idle, ready, running, done, Store, Outcome, well, late, Place, modeAt, passes, chosen, sensed, terminations, updates, begun, releases, releasedBy, entered, turned, instant}
 use Rattle.timing.specs.Standings.{terminated, split}
 use Rattle.timing.specs.Lates.{unfinished}
 use Rattle.timing.specs.Orders.{among, stamped}

@@ -1,5 +1,5 @@
 -- When a module falls: a tick that ends the slot of a task that is out and unfinished, and no other tick.
-use Prim.Native.Nat.{ℕ, zero, suc, _+_, _≤_, _<_}
+use Prim.Native.Nat.{ℕ}
 use native.Mathlib.Omega.{arith}
 use native.Mathlib.Decide.{ℕ-discrete}
 use mathlib.Core.Path.{_≡_, refl, sym, _∙_, ap, subst}
@@ -8,14 +8,14 @@ use mathlib.Core.Bool.{Bool, true, false, cond}
 use mathlib.Core.Option.{Option, none, some}
 use mathlib.Core.List.{List, [], _∷_, _++_}
 use lib.ListN.{getD, set}
-use Rattle.model.specs.Clock.{elapsed, judged, early, due, missed, fits}
+use Rattle.model.specs.Clock.{due}
 use Rattle.model.specs.Modules.{Module, Act, Call, place}
 use Rattle.timing.specs.Slots.{closing}
 use Rattle.timing.specs.SlotLaws.{Each}
 use Rattle.timing.specs.Rules.{Standing, idle, ready, running, done, Store, Outcome, well, late, Place, modeAt, outputsOf, sensed, ended, terminations, instant}
-use Rattle.timing.specs.Calls.{Ask, tick, next, finish, Reply, waits, reacted, refused, fell, given, taken, View, Said, cameTo, ask, replies, comes}
+use Rattle.timing.specs.Calls.{Ask, tick, next, finish, Reply, waits, reacted, refused, fell, given, taken, View, cameTo, ask, replies, comes}
 use Rattle.timing.specs.Standings.{terminated}
-use Rattle.timing.specs.Ticks.{Taken, Due, nextTime, atNext, due-tick, Means, each-means, meaning}
+use Rattle.timing.specs.Ticks.{Due, nextTime, atNext, due-tick, Means, each-means, meaning}
 
 -- Out and not finished.
 abbrev pub unfinished : Standing → Bool

@@ -17,4 +17,9 @@ pub mod Orders
 pub mod Twins
 pub mod Ideals
 pub mod OrderFree
+pub mod Released
+pub mod PortLaws
+pub mod Changes
+pub mod PortsAfter
+pub mod NothingEarly
 pub mod Cases

@@ -1,12 +1,12 @@
 -- What the rules' next instant is: the first time after t at which any slot of the mode ends; where none does, the period.
-use Prim.Native.Nat.{ℕ, zero, suc, _+_, min, _≤_, _<_}
+use Prim.Native.Nat.{ℕ, min, _≤_, _<_}
 use native.Mathlib.Omega.{arith}
-use mathlib.Core.Path.{_≡_, refl, sym, _∙_}
+use mathlib.Core.Path.{_≡_, refl, _∙_}
 use mathlib.Core.Logic.{_⊎_, inl, inr}
 use mathlib.Core.Bool.{Bool, true, false, cond, _||_}
 use mathlib.Core.List.{List, [], _∷_}
 use lib.Dec.{eqb, ltb}
-use borrow.Author.Tests.{ltb-true, ltb-false, eqb-true, eq-eqb, ne-eqb, lt-ltb}
+use borrow.Author.Tests.{ltb-true, ltb-false, eq-eqb, ne-eqb, lt-ltb}
 use Rattle.model.specs.Modules.{Act, Mode}
 use Rattle.timing.specs.Slots.{Span, spans, anyOf, spanEnds, endsAt, sooner, nextOn, soonest}
 use Rattle.timing.specs.SlotLaws.{nextOn-le, soonest-le, or-left, or-right}

@@ -1,25 +1,25 @@
 -- The order of finishing does not matter: histories that keep to the same readings and results, in time, come to the same.
-use Prim.Native.Nat.{ℕ, zero, suc, _+_, _-_, _≤_, _<_}
+use Prim.Native.Nat.{ℕ, zero, suc, _+_}
 use native.Mathlib.Omega.{arith}
-use mathlib.Core.Path.{_≡_, refl, sym, _∙_, ap, ap₂, subst}
+use mathlib.Core.Path.{_≡_, refl, sym, _∙_, ap, subst}
 use mathlib.Core.Bool.{Bool, true, false, cond}
 use mathlib.Core.Option.{Option, none, some}
-use mathlib.Core.List.{List, [], _∷_, map}
-use lib.ListN.{length, getD, set, length-set}
+use mathlib.Core.List.{List, [], _∷_}
+use lib.ListN.{getD, set, length-set}
 use Rattle.model.specs.Clock.{elapsed}
-use Rattle.model.specs.Modules.{Module, Act, Call, Task}
-use Rattle.timing.specs.Slots.{closing, opening}
+use Rattle.model.specs.Modules.{Module, Act, Call}
+use Rattle.timing.specs.Slots.{closing}
 use Rattle.timing.specs.SlotLaws.{Each}
-use Rattle.timing.specs.Rules.{Standing, idle, ready, running, done, Store, Outcome, well, late, Place, modeAt, nextInstant, sensed, entered, instant}
+use Rattle.timing.specs.Rules.{Standing, idle, ready, running, done, Outcome, well, late, Place, modeAt, nextInstant, sensed, entered, instant}
 use Rattle.timing.specs.InstantLaws.{next-same}
-use Rattle.timing.specs.Calls.{Ask, tick, next, finish, Reply, waits, reacted, refused, fell, given, taken, View, remains, stands, startMode, beginning, started, ask, comes}
-use Rattle.timing.specs.Standings.{whichOut}
+use Rattle.timing.specs.Calls.{Ask, Reply, waits, reacted, refused, fell, given, taken, View, stands, startMode, beginning, started, ask, comes}
+use Rattle.timing.specs.Standings.{whichOut, beginning-idle}
 use Rattle.timing.specs.Ticks.{nextTime, atNext, Means, each-means}
-use Rattle.timing.specs.Lates.{unfinished, firstLate, none-late, Rightly, instant-rightly}
-use Rattle.timing.specs.Related.{Rel, Same, entered-rel}
+use Rattle.timing.specs.Lates.{unfinished, none-late, Rightly, instant-rightly}
+use Rattle.timing.specs.Related.{entered-rel}
 use Rattle.timing.specs.Orders.{among, stamped, stampedBy, served, Shown, showing, logged, dues, dueLog, KeepsAt, Keeps, SameRun}
 use Rattle.timing.specs.Twins.{Twin, Twins, instant-twins, twins-out, set-one}
-use Rattle.timing.specs.Ideals.{settle, KeptOne, Kept, Part, kept-fine, twin-handed, twin-done, settle-twins, part-entered, part-instant, settle-kept}
+use Rattle.timing.specs.Ideals.{settle, KeptOne, Kept, kept-fine, twin-handed, twin-done, settle-twins, part-entered, part-instant, settle-kept}
 
 module _ (M : Module) (readings : ℕ → List ℕ) (results : ℕ → ℕ → List ℕ) where
   -- ---- the ideal run
@@ -200,16 +200,11 @@ module _ (M : Module) (readings : ℕ → List ℕ) (results : ℕ → ℕ → L
       at : Place
       at = entered M (startMode M) 0 (sensed M words (beginning M))
 
-      none-out : (tasks : List Task) (j : ℕ) → getD (map (λ (task : Task). idle) tasks) j idle ≡ idle
-      none-out [] j = refl
-      none-out (t ∷ tasks) zero = refl
-      none-out (t ∷ tasks) (suc j) = none-out tasks j
-
       self : Twins (at .store) (at .store)
-      self = entered-rel M (λ j. Twin) (λ j. tt) (startMode M) 0 (sensed M words (beginning M)) (sensed M words (beginning M)) (record { same-ports = refl; same-size = refl; each = λ j. rw (none-out (M .tasks) j) tt }) .rel
+      self = entered-rel M (λ j. Twin) (λ j. tt) (startMode M) 0 (sensed M words (beginning M)) (sensed M words (beginning M)) (record { same-ports = refl; same-size = refl; each = λ j. rw (beginning-idle M j) tt }) .rel
 
       K : Kept (λ j. results (stamped 0 (at .released) (λ i. 0) j) j) (settle (results 0) 0 (at .store .tasks))
-      K = settle-kept results 0 (λ j. 0) (at .released) (at .store .tasks) (part-entered M (λ j. results 0 j) (startMode M) 0 (sensed M words (beginning M)) (λ j. rw (none-out (M .tasks) j) tt))
+      K = settle-kept results 0 (λ j. 0) (at .released) (at .store .tasks) (part-entered M (λ j. results 0 j) (startMode M) 0 (sensed M words (beginning M)) (λ j. rw (beginning-idle M j) tt))
 
       never-mind : (ts : List ℕ) (j : ℕ) → stamped 0 ts (λ i. 0) j ≡ 0
       never-mind ts j = go (among j ts)

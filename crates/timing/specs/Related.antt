@@ -1,16 +1,16 @@
 -- Two stores with the same ports whose tasks stand in a relation C, one by one: what an instant keeps of it.
-use Prim.Native.Nat.{ℕ, zero, suc, _+_}
+use Prim.Native.Nat.{ℕ, zero, suc}
 use native.Mathlib.Omega.{arith}
-use mathlib.Core.Path.{_≡_, refl, sym, _∙_, ap, ap₂, subst}
+use mathlib.Core.Path.{_≡_, refl, ap, subst}
 use mathlib.Core.Bool.{Bool, true, false, cond}
 use mathlib.Core.Option.{Option, none, some}
 use mathlib.Core.List.{List, [], _∷_}
 use lib.ListN.{length, getD, set, length-set}
 use lib.Dec.{eqb}
-use Rattle.model.specs.Modules.{Module, Mode, Act, Call, Update, place, copyTo}
+use Rattle.model.specs.Modules.{Module, Act, Call, place, copyTo}
 use Rattle.timing.specs.Slots.{closing, opening}
 use Rattle.timing.specs.SlotLaws.{Each}
-use Rattle.timing.specs.Rules.{Standing, idle, ready, running, done, Store, Outcome, well, late, andThen, Place, modeAt, inputsOf, passes, chosen, sensed, ended, terminations, updates, begun, releases, releasedBy, entered, turned, afterEnds, instant}
+use Rattle.timing.specs.Rules.{Standing, idle, ready, Store, Outcome, well, late, andThen, Place, modeAt, inputsOf, passes, chosen, sensed, ended, terminations, updates, begun, releases, releasedBy, entered, turned, afterEnds, instant}
 
 set-each : (C : ℕ → Standing → Standing → Type 0) (l n : List Standing) (t : ℕ) (x y : Standing) → C t x y → length l ≡ length n → ((j : ℕ) → C j (getD l j idle) (getD n j idle))
     → (j : ℕ) → C j (getD (set l t x) j idle) (getD (set n t y) j idle)

@@ -3,12 +3,12 @@ use Prim.Native.Nat.{ℕ, zero, suc, _+_, _*_, _/_, _%_, min, _≤_, _<_}
 use native.Mathlib.Omega.{arith}
 use native.Mathlib.Nat.{mul-le-mul-right, mul-lt-mul-of-pos-right, lt-of-mul-lt-mul-right, div-add-mod', mul-div-cancel, mul-mod-left, mul-comm, mul-assoc, lt-div-mul-add, add-mul, one-mul}
 use mathlib.Core.Path.{_≡_, refl, sym, _∙_, ap, subst}
-use mathlib.Core.Bool.{Bool, true, false, cond, _||_, _&&_}
+use mathlib.Core.Bool.{Bool, true, false, cond}
 use mathlib.Core.List.{List, [], _∷_}
 use lib.Dec.{eqb, ltb}
-use borrow.Author.Tests.{ltb-true, ltb-false, eqb-true, eqb-false, lt-ltb, le-ltb, eq-eqb, ne-eqb}
-use Rattle.model.specs.Modules.{Act, Call}
-use Rattle.timing.specs.Slots.{Span, slotsFrom, spans, anyOf, spanEnds, spanBegins, spanAmid, endsAt, beginsAt, amidAt, sooner, nextOn}
+use borrow.Author.Tests.{ltb-true, eqb-true, eqb-false, lt-ltb, le-ltb, eq-eqb}
+use Rattle.model.specs.Modules.{Act}
+use Rattle.timing.specs.Slots.{slotsFrom, spans, anyOf, spanEnds, spanBegins, spanAmid, endsAt, beginsAt, amidAt, sooner, nextOn}
 use Rattle.timing.specs.SlotLaws.{Ordered, Fits, Each, or-elim, or-left, or-right}
 
 -- A frequency that document 01 accepts in a mode of this period.

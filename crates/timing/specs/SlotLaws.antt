@@ -7,7 +7,7 @@ use mathlib.Core.List.{List, [], _∷_}
 use lib.Dec.{eqb, leb, ltb}
 use borrow.Author.Tests.{ltb-true, ltb-false, eqb-true, eqb-false, leb-true, lt-ltb, le-leb, ne-eqb}
 use Rattle.model.specs.Modules.{Act}
-use Rattle.timing.specs.Slots.{Span, spans, anyOf, spanEnds, spanBegins, spanLive, spanAmid, endsAt, beginsAt, liveAt, amidAt, sooner, nextOn, soonest}
+use Rattle.timing.specs.Slots.{Span, spans, anyOf, spanEnds, spanBegins, spanLive, spanAmid, endsAt, beginsAt, liveAt, amidAt, sooner, nextOn, soonest, keep}
 
 -- Stretches of some length between lo and hi, none before another's end.
 abbrev pub Ordered : ℕ → List Span → ℕ → Type 0
@@ -25,6 +25,14 @@ Each C (a ∷ rest) = C a × Each C rest
 pub each-zip : {A : Type 0} (B C D : A → Type 0) → ((a : A) → B a → C a → D a) → (list : List A) → Each B list → Each C list → Each D list
 each-zip B C D f [] b c = tt
 each-zip B C D f (a ∷ rest) b c = (f a (b .0) (c .0), each-zip B C D f rest (b .1) (c .1))
+
+pub each-keep : {A : Type 0} (C : A → Type 0) (f : A → Bool) (l : List A) → Each C l → Each C (keep f l)
+each-keep C f [] e = tt
+each-keep C f (a ∷ l) e = go (f a) (each-keep C f l (e .1))
+  where
+    go : (y : Bool) → Each C (keep f l) → Each C (cond y (a ∷ keep f l) (keep f l))
+    go true r = (e .0, r)
+    go false r = r
 
 abbrev pub AllFit : {A : Type 0} → ℕ → List (Act A) → Type 0
 AllFit period acts = Each (Fits period) acts

@@ -3,13 +3,13 @@ use Prim.Native.Nat.{ℕ, zero, suc, _+_}
 use native.Mathlib.Omega.{arith}
 use mathlib.Core.Path.{_≡_, refl}
 use mathlib.Core.Logic.{_≢_}
-use mathlib.Core.Option.{Option, none, some}
-use mathlib.Core.List.{List, [], _∷_}
+use mathlib.Core.Option.{some}
+use mathlib.Core.List.{List, [], _∷_, map}
 use lib.ListN.{getD, set}
 use lib.Seq.{getD-set-other}
-use Rattle.model.specs.Modules.{Module, Act, Call, place}
+use Rattle.model.specs.Modules.{Module, Task, Act, Call, place}
 use Rattle.timing.specs.Rules.{Standing, idle, ready, running, done, Store, Outcome, well, late, outputsOf, ended, terminations}
-use Rattle.timing.specs.Calls.{lowest}
+use Rattle.timing.specs.Calls.{lowest, beginning}
 
 -- a task is out from its release to the end of its slot; which are out; how many
 abbrev pub isOut : Standing → ℕ
@@ -36,6 +36,15 @@ found n t (done x ∷ l) e = let (i, a, b) = found (suc n) t l e in (suc i, omeg
 
 pub handed-ready : (t : ℕ) (l : List Standing) → lowest 0 l ≡ some t → getD l t idle ≡ ready
 handed-ready t l e = let (i, a, b) = found 0 t l e in let q : t ≡ i = omega arith in rw q b
+
+-- No task is out at the beginning.
+pub beginning-idle : (M : Module) (j : ℕ) → getD (beginning M .tasks) j idle ≡ idle
+beginning-idle M j = go (M .tasks) j
+  where
+    go : (tasks : List Task) (i : ℕ) → getD (map (λ (task : Task). idle) tasks) i idle ≡ idle
+    go [] i = refl
+    go (t ∷ tasks) zero = refl
+    go (t ∷ tasks) (suc i) = go tasks i
 
 set-idle : (l : List Standing) (t : ℕ) → getD (set l t idle) t idle ≡ idle
 set-idle [] t = refl

@@ -1,16 +1,16 @@
 -- What each call comes to, case by case (document 01, 'The machine'): the rules' calls taken apart once, for all theorems on histories.
-use Prim.Native.Nat.{ℕ, zero, suc, _+_, _-_, _%_, _^_, _≤_, _<_}
+use Prim.Native.Nat.{ℕ, _+_, _-_, _%_, _^_, _<_}
 use native.Mathlib.Omega.{arith}
-use mathlib.Core.Path.{_≡_, refl, sym, _∙_, ap, subst}
+use mathlib.Core.Path.{_≡_, refl, _∙_, ap, subst}
 use mathlib.Core.Bool.{Bool, true, false, cond}
 use mathlib.Core.Option.{Option, none, some}
-use mathlib.Core.List.{List, [], _∷_}
+use mathlib.Core.List.{List}
 use lib.ListN.{getD, set}
 use lib.Dec.{eqb, ltb}
-use borrow.Author.Tests.{lt-ltb, le-ltb, eq-eqb, ne-eqb, ltb-true, ltb-false, eqb-true, eqb-false}
+use borrow.Author.Tests.{lt-ltb, le-ltb, eq-eqb, ne-eqb, ltb-true, eqb-true}
 use Rattle.model.specs.Clock.{elapsed, Instant, early, due, missed, judged, fits}
 use Rattle.model.specs.Modules.{Module}
-use Rattle.timing.specs.Rules.{Standing, idle, ready, running, done, Store, Outcome, well, late, Place, modeAt, nextInstant, instant}
+use Rattle.timing.specs.Rules.{Standing, idle, ready, running, done, Outcome, well, late, Place, modeAt, nextInstant, instant}
 use Rattle.timing.specs.Calls.{Ask, tick, next, finish, Reply, waits, reacted, refused, fell, given, taken, View, Said, lowest, readingTypes, resultTypes, remains, stay, stands, cameTo, passed, ticked, handed, finished, answer, ask}
 use Rattle.timing.specs.Standings.{handed-ready}
 use Rattle.timing.specs.ClockLaws.{elapsed-shifts}

@@ -1,14 +1,13 @@
 -- Two stores that differ only in how far the tasks that are out have come react alike.
-use Prim.Native.Nat.{ℕ, zero, suc, _+_}
+use Prim.Native.Nat.{ℕ, zero, suc}
 use native.Mathlib.Omega.{arith}
-use mathlib.Core.Path.{_≡_, refl, sym, _∙_, ap, ap₂, subst}
-use mathlib.Core.Bool.{Bool, true, false, cond}
+use mathlib.Core.Path.{_≡_, refl, ap₂, subst}
 use mathlib.Core.List.{List, [], _∷_}
 use lib.ListN.{length, getD, set}
 use Rattle.model.specs.Modules.{Module, Act, Call, place}
 use Rattle.timing.specs.Slots.{closing}
 use Rattle.timing.specs.SlotLaws.{Each}
-use Rattle.timing.specs.Rules.{Standing, idle, ready, running, done, Store, Outcome, well, late, Place, modeAt, outputsOf, ended, instant}
+use Rattle.timing.specs.Rules.{Standing, idle, ready, running, done, Store, Outcome, well, Place, modeAt, outputsOf, ended, instant}
 use Rattle.timing.specs.Standings.{isOut, whichOut}
 use Rattle.timing.specs.Related.{Rel, Same, OnBoth, put, instant-rel}
 

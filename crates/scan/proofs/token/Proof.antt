@@ -16,6 +16,9 @@ starts-at-requires c κs = search needs
 enum-known-place-2 : tie.Need-enum-known-place-2
 enum-known-place-2 c = search needs
 
+found-requires : tie.Need-found-requires
+found-requires c κs = search needs
+
 returns : tie.Need-returns
 returns c =
     let skip = c .before .before .before .before .skip in
@@ -24,8 +27,9 @@ returns c =
 
 returns-2 : tie.Need-returns-2
 returns-2 c =
-    let skip = c .before .before .before .skip in
-    sym (law.token-open _ _ _ (skip .ensures) _ (c .before .place2 .given .1))
+    let skip = c .before .before .before .before .skip in
+    let place2 = c .before .before .place2 in
+    c .found .ensures ∙ sym (law.token-open _ _ _ (skip .ensures) _ (place2 .given .1))
 
 pub token-spec : {M : Type 1} → statement M
 token-spec =
@@ -35,5 +39,6 @@ token-spec =
     enum-known-place
     starts-at-requires
     enum-known-place-2
+    found-requires
     returns
     returns-2)
