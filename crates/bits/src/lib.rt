@@ -2,7 +2,6 @@
 // Promises: each function is the machine's own definition, for every task number: one of 64 and more is in no word and joins none.
 // Builds on the definitions of machine.
 ghost use mathlib.Core.Path.{_≡_};
-ghost use Prim.Native.Nat.{ℕ};
 ghost use Rattle.machine.specs.Words.{has as hasOf, joined, parted, lowestIn, countIn};
 ghost use Rattle.bits.specs.Found.{foundOf};
 

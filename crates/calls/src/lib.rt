@@ -2,15 +2,14 @@
 // Promises: each call is its definition, for every table and every state: the answer, where the machine then stands, the ports and the results aside.
 // Builds on the calls of machine, on react, bits and cells.
 ghost use mathlib.Core.Path.{_≡_};
-ghost use mathlib.Core.Bool.{Bool, true, false};
+ghost use mathlib.Core.Bool.{true, false};
 ghost use mathlib.Core.List.{List, []};
 ghost use Prim.Native.Nat.{ℕ, _+_};
-ghost use lib.ListN.{length, getD};
 ghost use Rattle.model.specs.Clock.{fits as fitsOf};
 ghost use Rattle.machine.specs.Store.{part};
 ghost use Rattle.machine.specs.Calls.{stoppedBy, reacted, tick, nextTask, finish, atWork};
 ghost use Rattle.react.specs.Rows.{boardBy, reactive};
-ghost use Rattle.calls.specs.States.{storeOf, stateOf, served, turned, ended};
+ghost use Rattle.calls.specs.States.{stateOf, served, turned, ended};
 ghost use Rattle.calls.specs.Fitting.{fitsOne};
 use bits::Found;
 use cells::Instant;

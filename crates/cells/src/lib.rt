@@ -2,8 +2,8 @@
 // Promises: every function is total and its answer is given by one definition; words and 32-bit integers are each other's two's complement.
 // Builds on the clock of model.
 ghost use mathlib.Core.Path.{_≡_};
-ghost use Prim.Native.Nat.{ℕ, _<_};
-ghost use lib.ListN.{length, getD, set};
+ghost use Prim.Native.Nat.{_<_};
+ghost use lib.ListN.{getD, set};
 ghost use lib.Signed.{ltZ};
 ghost use mir.Syntax.{w32};
 ghost use mir.Val.{ofZ, toZ};

@@ -2,9 +2,7 @@
 // Promises: every call is its definition (document 01, 'The machine'), for every record, one that no start made included: the answer and every field.
 // Builds on the tables, on the calls of machine as definitions and of calls as code.
 ghost use mathlib.Core.Path.{_≡_};
-ghost use mathlib.Core.Bool.{Bool, true, false};
-ghost use mathlib.Core.List.{List};
-ghost use Prim.Native.Nat.{ℕ};
+ghost use mathlib.Core.Bool.{true, false};
 ghost use Rattle.machine.specs.Calls.{tick as tickOf, nextTask, finish as finishOf, look as lookOf, tasksOut};
 ghost use Rattle.machine.specs.declared.Reaction.the-variants.{Refused};
 ghost use Rattle.machine.specs.Starts.{startOn, noMachine};

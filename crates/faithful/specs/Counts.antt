@@ -50,12 +50,12 @@ module _ (M : Module) where
 
 -- ---- one standing changes
 
-out-changes : (l : List Standing) (t : ℕ) (x y : Standing) → getD l t idle ≡ x → isOut x ≡ 1 → howManyOut (set l t y) + 1 ≡ howManyOut l + isOut y
+pub out-changes : (l : List Standing) (t : ℕ) (x y : Standing) → getD l t idle ≡ x → isOut x ≡ 1 → howManyOut (set l t y) + 1 ≡ howManyOut l + isOut y
 out-changes [] t x y e o = let h : 0 ≡ isOut x = ap isOut e in absurd (omega arith)
 out-changes (a ∷ l) zero x y e o = let h : isOut a ≡ isOut x = ap isOut e in omega arith
 out-changes (a ∷ l) (suc t) x y e o = let h = out-changes l t x y e o in omega arith
 
-out-begins : (l : List Standing) (t : ℕ) → t < length l → getD l t idle ≡ idle → howManyOut (set l t ready) ≡ howManyOut l + 1
+pub out-begins : (l : List Standing) (t : ℕ) → t < length l → getD l t idle ≡ idle → howManyOut (set l t ready) ≡ howManyOut l + 1
 out-begins [] t lt e = absurd (omega arith)
 out-begins (a ∷ l) zero lt e = let h : isOut a ≡ 0 = ap isOut e in omega arith
 out-begins (a ∷ l) (suc t) lt e = let h = out-begins l t (omega arith) e in omega arith
@@ -63,7 +63,7 @@ out-begins (a ∷ l) (suc t) lt e = let h = out-begins l t (omega arith) e in om
 module _ (M : Module) where
   -- ---- terminations, and releases
 
-  terms-count : (acts : List (Act Call)) (s v : Store) → terminations M acts s ≡ well v → (howManyOut (v .tasks) + endedOut acts (s .tasks) ≡ howManyOut (s .tasks)) × (length (v .tasks) ≡ length (s .tasks))
+  pub terms-count : (acts : List (Act Call)) (s v : Store) → terminations M acts s ≡ well v → (howManyOut (v .tasks) + endedOut acts (s .tasks) ≡ howManyOut (s .tasks)) × (length (v .tasks) ≡ length (s .tasks))
   terms-count [] s v q = let e : s ≡ v = cc in rw (← e) (omega arith, refl)
   terms-count (a ∷ acts) s v q = let (w, e, r) = split M a acts s v q in go w (ending M (a .what .task) s w e) (terms-count acts w v r)
     where
@@ -81,7 +81,7 @@ module _ (M : Module) where
           let x = ih1 .0 in
           (omega arith, ih1 .1 ∙ length-set (s .tasks) t idle)
 
-  releases-count : (acts : List (Act Call)) (s : Store) → Free acts s → Each (λ a. a .what .task < length (s .tasks)) acts
+  pub releases-count : (acts : List (Act Call)) (s : Store) → Free acts s → Each (λ a. a .what .task < length (s .tasks)) acts
       → (howManyOut (releases M acts s .tasks) ≡ howManyOut (s .tasks) + length (releasedBy M acts s)) × (length (releases M acts s .tasks) ≡ length (s .tasks))
   releases-count [] s f w = (omega arith, refl)
   releases-count (a ∷ acts) s f w =
@@ -110,7 +110,7 @@ module _ (M : Module) (W : Accepted M) where
   tasks v = v .place .store .tasks
 
   -- the tasks that a mode invokes are the module's
-  begun-known : (at : Place) → at .mode < length (M .modes) → Each (λ a. a .what .task < length (M .tasks)) (beginningThere M at)
+  pub begun-known : (at : Place) → at .mode < length (M .modes) → Each (λ a. a .what .task < length (M .tasks)) (beginningThere M at)
   begun-known at h = each-keep (λ a. a .what .task < length (M .tasks)) (beginsAt (modeAt M (at .mode) .period) (at .time)) (modeAt M (at .mode) .calls) (go (modeAt M (at .mode) .calls) (W .modes (at .mode) h .calls))
     where
       go : (acts : List (Act Call)) → Each (CallFits M) acts → Each (λ a. a .what .task < length (M .tasks)) acts
@@ -153,6 +153,19 @@ module _ (M : Module) (W : Accepted M) where
       let x = f .0 in
       omega arith
 
+  pub same-many : (a : Ask) (v : View) → Held M (v .place) → length (tasks v) ≡ length (M .tasks) → length (tasks (ask M a v .view)) ≡ length (M .tasks)
+  unfolding Fair
+  same-many a v H l = fair-means a v (ask M a v .reply) (ask M a v .view) (each-means M v a) H l .1 ∙ l
+
+  pub start-many : (count : ℕ) (words : List ℕ) → length (tasks (started M count words)) ≡ length (M .tasks)
+  start-many count words =
+      let v = started M count words in
+      let (free, held) = start-held M W count words in
+      let (store, released) = start-came M count words in
+      let all : length (beginning M .tasks) ≡ length (M .tasks) = mapped (λ (task : Task). idle) (M .tasks) in
+      let (outs, long) = releases-count M (beginningThere M (v .place)) (sensed M words (beginning M)) free (rw all (begun-known (v .place) (held .known))) in
+      (rw store long) ∙ all
+
   none-out : (l : List Standing) → ((j : ℕ) → getD l j idle ≡ idle) → howManyOut l ≡ 0
   none-out [] h = refl
   none-out (a ∷ l) h = let e : isOut a ≡ 0 = ap isOut (h zero) in let k = none-out l (λ j. h (suc j)) in omega arith
@@ -168,7 +181,7 @@ module _ (M : Module) (W : Accepted M) where
       let all : length (beginning M .tasks) ≡ length (M .tasks) = mapped (λ (task : Task). idle) (M .tasks) in
       let (outs, long) = releases-count M (beginningThere M (v .place)) s free (rw all (begun-known (v .place) (held .known))) in
       let e : howManyOut (tasks v) ≡ howManyOut (beginning M .tasks) + length (v .place .released) = rw (store, released) outs in
-      let l : length (tasks v) ≡ length (M .tasks) = (rw store long) ∙ all in
+      let l = start-many count words in
       let z = none-out (beginning M .tasks) (beginning-idle M) in
       let a = along asks v held l in
       omega arith

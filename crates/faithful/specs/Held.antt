@@ -1,6 +1,6 @@
 -- What holds of an accepted module between calls, by the rules alone: a known mode, a time within its period, and no task out but those with a slot in force.
 -- So whatever is released is not out: fault 43 has no cause in the rules.
-use Prim.Native.Nat.{ℕ, _+_, _<_}
+use Prim.Native.Nat.{_^_, _≤_, ℕ, _+_, _<_}
 use native.Mathlib.Omega.{arith}
 use native.Mathlib.Decide.{ℕ-discrete}
 use mathlib.Core.Path.{_≡_, refl, sym, _∙_, ap, subst}
@@ -12,15 +12,16 @@ use lib.Seq.{getD-set-other}
 use lib.Dec.{eqb}
 use borrow.Author.Tests.{eqb-true, eqb-false}
 use Rattle.model.specs.Modules.{Module}
+use Rattle.model.specs.Rooms.{periodRoom}
 use Rattle.model.specs.Clock.{elapsed}
 use Rattle.timing.specs.Slots.{closing, liveAt}
 use Rattle.timing.specs.Rules as R
 use Rattle.timing.specs.Rules.{Standing, idle, ready, running, done, Store, Outcome, well, Place, modeAt, nextInstant, chosen, terminations, sensed, entered, turned, afterEnds, instant}
-use Rattle.timing.specs.InstantLaws.{next-le, till-next}
+use Rattle.timing.specs.InstantLaws.{next-after, next-le, till-next}
 use Rattle.timing.specs.Accepted.{Accepted}
-use Rattle.timing.specs.Calls.{Ask, Reply, waits, reacted, refused, fell, given, taken, View, startMode, beginning, started, ask, comes}
+use Rattle.timing.specs.Calls.{remains, Ask, Reply, waits, reacted, refused, fell, given, taken, View, startMode, beginning, started, ask, comes}
 use Rattle.timing.specs.Standings.{beginning-idle}
-use Rattle.timing.specs.Ticks.{Means, each-means}
+use Rattle.timing.specs.Ticks.{Means, each-means, Taken, Due, dueCount, due-count}
 use Rattle.timing.specs.Released.{beginningThere, updatedAt, Came, instant-came}
 use Rattle.faithful.specs.Tasks.{Idle, Free, absent-if}
 use Rattle.faithful.specs.Outs.{Quiet, quiet-after, free-begin, nobody-switch, nobody-wrap, free-inside, quiet-inside}
@@ -143,3 +144,18 @@ module _ (M : Module) (W : Accepted M) where
   pub held-comes : (asks : List Ask) (v : View) → Held M (v .place) → Held M (comes M asks v .place)
   held-comes [] v H = H
   held-comes (a ∷ rest) v H = held-comes rest (ask M a v .view) (held-call a v H)
+
+  -- ---- the next due count
+
+  -- What remains is at least 1 and no more than the longest period.
+  pub remains-within : (at : Place) → Held M at → (0 < remains M at) × (remains M at ≤ periodRoom)
+  remains-within at H =
+      let m = modeAt M (at .mode) in
+      let a = next-after m (at .time) (H .before) in
+      let b = next-le m (at .time) in
+      let c = W .modes (at .mode) (H .known) .period in
+      (omega arith, omega arith)
+
+  -- So there is a count of 32 bits that is due.
+  pub always-due : (v : View) (types words : List ℕ) → Held M (v .place) → v .clock < 2 ^ 32 → Taken M v types words → Due M v (dueCount M v) types words
+  always-due v types words H c t = let r = remains-within (v .place) H in due-count M v types words c (omega arith) t

@@ -10,3 +10,6 @@ pub mod Reacts
 pub mod Docks
 pub mod Histories
 pub mod Counts
+pub mod Tallies
+pub mod ReactionCounts
+pub mod DockCounts

@@ -2,11 +2,8 @@
 use Prim.Native.Nat.{ℕ, zero, suc, _≤_, _<_}
 use native.Mathlib.Omega.{arith}
 use mathlib.Core.Path.{_≡_, refl, ap, ap₂}
-use mathlib.Core.Bool.{Bool, true, false, cond}
 use mathlib.Core.List.{List, [], _∷_}
 use lib.ListN.{length, getD, drop}
-use lib.Dec.{ltb}
-use borrow.Author.Tests.{ltb-true, ltb-false}
 
 module _ {A : Type 0} where
   -- the n elements at 0 to n - 1

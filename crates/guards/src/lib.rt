@@ -2,7 +2,6 @@
 // Promises: each answer is the definition's, for every row and every list of ports.
 // Builds on the guards of model and on cells.
 ghost use mathlib.Core.Path.{_≡_};
-ghost use mathlib.Core.Bool.{Bool, true, false};
 ghost use Rattle.model.specs.Values.{wordOf, operandWord, functionBy, holds as holdsOf};
 ghost use Rattle.guards.specs.Rows.{operandBy, guardIn};
 use model::Function;

@@ -1,22 +1,18 @@
 -- What each call answers, case by case, and what it leaves as it was (document 01, 'The machine').
-use Prim.Native.Nat.{ℕ, _+_, _-_, _*_, _%_, _^_, _<_, _≤_}
-use native.Mathlib.Omega.{arith}
-use mathlib.Core.Path.{_≡_, refl, sym, _∙_, ap}
-use mathlib.Core.Bool.{Bool, true, false, cond, _&&_, not}
-use mathlib.Core.Option.{Option, none, some}
-use mathlib.Core.List.{List, []}
-use lib.Dec.{eqb, ltb}
-use borrow.Author.Tests.{lt-ltb, le-ltb, eq-eqb, ne-eqb}
+use Prim.Native.Nat.{ℕ, _*_}
+use mathlib.Core.Path.{_≡_, refl, _∙_, ap}
+use mathlib.Core.Bool.{Bool, true, false, cond}
+use mathlib.Core.Option.{Option}
+use mathlib.Core.List.{List}
 use Rattle.model.specs.Rooms.{portRoom}
-use Rattle.model.specs.Clock.{elapsed, Instant, early, due, missed, judged, fits}
+use Rattle.model.specs.Clock.{elapsed, Instant, judged, fits}
 use Rattle.model.specs.Modules.{place}
-use Rattle.machine.specs.declared.Reaction.{Reaction}
 use Rattle.machine.specs.declared.Reaction.the-variants as R
 use Rattle.machine.specs.declared.Turn.the-variants as T
 use Rattle.machine.specs.declared.Finishing.the-variants as F
-use Rattle.machine.specs.Words.{has, joined, parted, lowestIn}
+use Rattle.machine.specs.Words.{joined, lowestIn}
 use Rattle.machine.specs.Boards.{Board}
-use Rattle.machine.specs.Calls.{State, Ticked, Handed, Finished, byInstant, reacted, readingTypes, resultTypes, tick, idled, handedOut, nextTask, atWork, withWords, finish}
+use Rattle.machine.specs.Calls.{State, byInstant, readingTypes, resultTypes, tick, handedOut, nextTask, atWork, withWords, finish}
 
 module _ {A : Type 0} (b : Bool) (x y : A) where
   pub chosen : b ≡ true → cond b x y ≡ x

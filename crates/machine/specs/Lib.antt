@@ -5,6 +5,13 @@ pub mod Instructions
 pub mod Store
 pub mod Calls
 pub mod CallLaws
+pub mod Leaves
+pub mod ClockLaws
+pub mod HandedLaws
+pub mod NoTrace
 pub mod Starts
+pub mod Counts
+pub mod CountLaw
+pub mod SoundLaws
 pub mod Answers
 pub mod Cases

@@ -1,15 +1,15 @@
 -- Laws of words of 64 bits: what a word has after a task joins or parts, which task is the lowest, and how many there are.
 use Prim.Native.Nat.{ℕ, zero, suc, _+_, _-_, _*_, _/_, _%_, _^_, _≤_, _<_}
-use native.Mathlib.Nat.{pow-succ', div-div-eq-div-mul, div-one, zero-div, div-eq-of-lt}
+use native.Mathlib.Nat.{pow-succ', div-div-eq-div-mul, div-one, div-eq-of-lt}
 use native.Mathlib.Numerals.{add-one}
 use native.Mathlib.Omega.{arith}
-use mathlib.Core.Path.{_≡_, refl, sym, ap, _∙_, subst}
+use mathlib.Core.Path.{_≡_, refl, sym, ap, _∙_}
 use mathlib.Core.Bool.{Bool, true, false, cond}
 use mathlib.Core.Option.{Option, none, some}
 use lib.Count.{trailingZeros, under, ones, ones-step}
 use lib.Dec.{eqb, ltb}
-use lib.Pow.{pow-mono, shr-lt}
-use borrow.Author.Tests.{eqb-true, eqb-false, eq-eqb, ne-eqb, lt-ltb, le-ltb, ltb-true, ltb-false}
+use lib.Pow.{pow-mono}
+use borrow.Author.Tests.{eqb-true, eqb-false, eq-eqb, lt-ltb, le-ltb, ltb-true, ltb-false}
 use Rattle.machine.specs.Words.{has, joined, parted, lowestFrom, lowestIn, countFrom, countIn}
 
 -- ---- bits of a number

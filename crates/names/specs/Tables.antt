@@ -7,7 +7,9 @@ use lib.Dec.{ltb}
 use lib.ListN.{length, getD}
 use lib.Seq.{sets}
 use Rattle.refusals.specs.declared.Row.{Row}
-use Rattle.refusals.specs.Names.{isSort, isPort, isPortOf}
+use Rattle.refusals.specs.Names.{taskScope, isSort, isPort, isPortOf}
+use Rattle.names.specs.declared.Scope.{Scope}
+use Rattle.names.specs.declared.Scope.the-variants.{Numbered, OfTask}
 use Rattle.names.specs.declared.Sought.{Sought}
 use Rattle.names.specs.declared.Sought.the-variants.{Sort, Port, PortOf}
 
@@ -49,8 +51,13 @@ pub record Declared (cells : List ℕ) (n : ℕ) (row : Row) (after : List ℕ) 
   pub array : after ≡ cond (hasRoom cells n) (withRow cells n row) cells
   pub rows : count ≡ cond (hasRoom cells n) (n + 1) n
 
+-- the number of a scope
+abbrev pub scopeOf : Scope → ℕ
+scopeOf (Numbered number) = number
+scopeOf (OfTask task) = taskScope task
+
 -- which rows are counted
 abbrev pub isOf : Sought → Row → Bool
 isOf (Sort sort) = isSort sort
 isOf Port = isPort
-isOf (PortOf scope sort) = isPortOf scope sort
+isOf (PortOf scope sort) = isPortOf (scopeOf scope) sort

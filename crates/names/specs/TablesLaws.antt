@@ -6,8 +6,8 @@ use mathlib.Core.Bool.{Bool, true, false, cond}
 use native.Mathlib.Omega.{arith}
 use native.Mathlib.Nat.{add-zero, zero-add}
 use native.Mathlib.Numerals.{add-one}
-use borrow.Author.Tests.{ltb-true}
-use lib.Dec.{lit<}
+use borrow.Author.Tests.{ltb-true, eqb-true, eqb-false, eq-eqb, ne-eqb}
+use lib.Dec.{eqb, lit<}
 use lib.ListN.{length, getD, take, drop, length-append, List·getD-append, List·getD-eq-default}
 use lib.Seq.{sets, sets-eq, length-sets, length-take-le, getD-take, getD-append-add}
 use Rattle.refusals.specs.declared.Row.{Row}
@@ -89,6 +89,18 @@ module _ (test : Row → Bool) (cells : List ℕ) (k n : ℕ) where
   pub type-on : k < n → test (rowAt cells k) ≡ false → (i : ℕ) → typeUp test cells k n i ≡ typeUp test cells (k + 1) n i
   unfolding types
   type-on h e i = rw (up-on cells k n h) (simp e)
+
+-- ---- the scope of a task's ports
+
+pub scope-none : (number task : ℕ) → number ≡ 0 → false ≡ eqb number (task + 1)
+scope-none number task z = sym (ne-eqb number (task + 1) (λ q. omega (arith, q)))
+
+pub scope-less : (number task : ℕ) → (number ≡ 0 → ⊥) → eqb (number - 1) task ≡ eqb number (task + 1)
+scope-less number task z = by (eqb (number - 1) task) refl
+  where
+    by : (b : Bool) → eqb (number - 1) task ≡ b → b ≡ eqb number (task + 1)
+    by true e = let p = eqb-true (number - 1) task e in sym (eq-eqb number (task + 1) (omega arith))
+    by false e = let p = eqb-false (number - 1) task e in sym (ne-eqb number (task + 1) (λ q. p (omega (arith, q))))
 
 -- ---- one row more
 

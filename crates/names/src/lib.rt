@@ -3,18 +3,25 @@
 // Builds on the scanner, and on what a row is in the rules.
 ghost use mathlib.Core.Path.{_≡_};
 ghost use Prim.Native.Nat.{min};
+ghost use lib.Dec.{eqb};
 ghost use lib.ListN.{getD};
 ghost use lib.Seq.{slice};
 ghost use Rattle.model.specs.Bytes.{same};
 ghost use Rattle.refusals.specs.Names.{unknown as unknownRow, isRow, find as findRow, noType, count as countOf, types};
-ghost use Rattle.names.specs.Tables.{rowAt, rowsIn, Declared, isOf};
+ghost use Rattle.names.specs.Tables.{rowAt, rowsIn, Declared, scopeOf, isOf};
 use refusals::Row;
+
+// A scope by its number, or that of a task's ports by the task's.
+pub enum Scope {
+    Numbered(usize),
+    OfTask(usize),
+}
 
 // Which rows are counted: those of a sort; the ports; those of a sort among the ports of a scope.
 pub enum Sought {
     Sort(usize),
     Port,
-    PortOf { scope: usize, sort: usize },
+    PortOf { scope: Scope, sort: usize },
 }
 
 // The number at a place of the array, 0 behind its end.
@@ -89,26 +96,34 @@ pub fn same_parts(s: &[u8], start: usize, end: usize, from: usize, to: usize) ->
     scan::same(s, start, end, &s[from..stop])
 }
 
-// Whether a row is of this scope and has the name that stands from start up to end.
-fn is_row(s: &[u8], row: Row, scope: usize, start: usize, end: usize) -> bool
-    ensures { λ r. ⌜ r ≡ isRow (now (s .entry)) scope (slice start end (now (s .entry))) row ⌝ }
+// Whether a number is that of a scope.
+fn is_in(number: usize, scope: Scope) -> bool
+    ensures { λ r. ⌜ r ≡ eqb number (scopeOf scope) ⌝ }
 {
-    if row.scope != scope {
-        return false;
+    match scope {
+        Scope::Numbered(other) => number == other,
+        Scope::OfTask(task) => {
+            if number == 0 {
+                return false;
+            }
+            number - 1 == task
+        }
     }
-    same_parts(s, row.start, row.end, start, end)
+}
+
+// Whether a row is of this scope and has the name that stands from start up to end.
+fn is_row(s: &[u8], row: Row, scope: Scope, start: usize, end: usize) -> bool
+    ensures { λ r. ⌜ r ≡ isRow (now (s .entry)) (scopeOf scope) (slice start end (now (s .entry))) row ⌝ }
+{
+    if is_in(row.scope, scope) {
+        return same_parts(s, row.start, row.end, start, end);
+    }
+    false
 }
 
 // What the name that stands from start up to end means in a scope, among the first n rows.
-pub fn find<'a>(
-    s: &'a [u8],
-    cells: &[usize],
-    n: usize,
-    scope: usize,
-    start: usize,
-    end: usize,
-) -> Row
-    ensures { λ r. ⌜ r ≡ findRow (now (s .entry)) (rowsIn (now (cells .entry)) n) scope (slice start end (now (s .entry))) ⌝ }
+pub fn find(s: &[u8], cells: &[usize], n: usize, scope: Scope, start: usize, end: usize) -> Row
+    ensures { λ r. ⌜ r ≡ findRow (now (s .entry)) (rowsIn (now (cells .entry)) n) (scopeOf scope) (slice start end (now (s .entry))) ⌝ }
 {
     let mut k = 0;
     while k < n {
@@ -138,10 +153,10 @@ fn is_of(sought: Sought, row: Row) -> bool
             }
         }
         Sought::PortOf { scope, sort } => {
-            if row.scope != scope {
-                return false;
+            if is_in(row.scope, scope) {
+                return row.sort == sort;
             }
-            row.sort == sort
+            false
         }
     }
 }

@@ -1,7 +1,7 @@
 -- What stands in a table's rows, by number: within the room its row, past it what does nothing.
-use Prim.Native.Nat.{ℕ, zero, suc, _+_, _*_, _≤_, _<_}
+use Prim.Native.Nat.{ℕ, _+_, _*_, _≤_, _<_}
 use native.Mathlib.Nat.{add-zero}
-use mathlib.Core.Path.{_≡_, refl, sym, ap, _∙_}
+use mathlib.Core.Path.{_≡_, refl, ap, _∙_}
 use mathlib.Core.Bool.{Bool, true, false, cond}
 use mathlib.Core.List.{List}
 use lib.ListN.{getD}
@@ -9,7 +9,7 @@ use lib.Seq.{set-getD}
 use lib.Dec.{ltb}
 use borrow.Author.Tests.{ltb-true, ltb-false}
 use Rattle.machine.specs.Boards.{Board, Lot, noLot}
-use Rattle.machine.specs.Instructions.{Res, ok}
+use Rattle.machine.specs.Instructions.{ok}
 use Rattle.machine.specs.Store.{Store, driven, withPorts}
 use Rattle.guards.specs.Tabs.{within-tab, past-tab}
 use Rattle.react.specs.Rows.{driverAt, driverIn, lotAt, lotsBy, taskCell}

@@ -1,14 +1,14 @@
 -- The board of a table whose parts are flat rows of numbers (crate tables). Past the end of a list stands 0, past a room what does nothing.
 -- Instructions in rows of 3: opcode and two arguments. Drivers in rows of 12: tag, target port or task, number of sources, source ports.
 -- Modes in rows of 3: start, period, begin. Tasks in rows of 4: first input, number of inputs, first output, number of outputs.
-use Prim.Native.Nat.{ℕ, zero, suc, _+_, _*_}
+use Prim.Native.Nat.{ℕ, _+_, _*_}
 use mathlib.Core.Bool.{cond}
 use mathlib.Core.List.{List, []}
 use lib.ListN.{getD}
 use lib.Dec.{eqb, ltb}
 use Rattle.model.specs.Rooms.{driverRoom, modeRoom, taskRoom}
 use Rattle.model.specs.Instructions.{Instr, nop, future, call, release, iff, jump, return, switch, Driver, updates, releases, terminates, noDriver}
-use Rattle.machine.specs.Boards.{Board, Lot, noLot}
+use Rattle.machine.specs.Boards.{Board, Lot}
 use Rattle.machine.specs.Store.{part}
 use Rattle.guards.specs.Tabs.{tab}
 use Rattle.guards.specs.Rows.{guardsBy}

@@ -12,7 +12,7 @@ use lib.Dec.{ltb}
 use borrow.Author.Tests.{ltb-true, ltb-false}
 use Rattle.model.specs.Instructions.{Instr, nop, future, call, release, iff, jump, return, switch}
 use Rattle.machine.specs.Boards.{Board}
-use Rattle.machine.specs.Instructions.{Fault, wild, astray, Res, ok, bad, Future, Halt, Run, Tally, noTally, counted, step, exec, goOn, only, leave, fail}
+use Rattle.machine.specs.Instructions.{Fault, wild, astray, Res, ok, bad, Future, Halt, Run, Tally, counted, step, exec, goOn, only, leave}
 use Rattle.machine.specs.Store.{Store, storeOps, reaction}
 use Rattle.react.specs.declared.Core.{Core}
 use Rattle.react.specs.declared.Ending.{Ending}

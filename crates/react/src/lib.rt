@@ -3,15 +3,15 @@
 // fault the ports are what they were.
 // Builds on the instructions and the store of machine, on guards, bits and cells.
 ghost use mathlib.Core.Path.{_≡_};
-ghost use mathlib.Core.Bool.{Bool, true, false};
+ghost use mathlib.Core.Bool.{true, false};
 ghost use mathlib.Core.List.{List, []};
 ghost use Prim.Native.Nat.{ℕ, _+_, _*_};
-ghost use lib.ListN.{length, getD};
+ghost use lib.ListN.{getD};
 ghost use Rattle.model.specs.Modules.{place as placed, copyTo};
 ghost use Rattle.machine.specs.Words.{has as hasOf};
-ghost use Rattle.machine.specs.Store.{Store, part, ended, driven, released, reaction};
+ghost use Rattle.machine.specs.Store.{part, ended, driven, released, reaction};
 ghost use Rattle.react.specs.Rows.{instrBy, driverIn, beginsBy, reactive, taskCell};
-ghost use Rattle.react.specs.Steps.{Stepped, stepped, settled, storeOf, promised, returned, obey as obeyOf, stepOf};
+ghost use Rattle.react.specs.Steps.{stepped, settled, storeOf, promised, returned, obey as obeyOf, stepOf};
 ghost use Rattle.react.specs.Runs.{shown, shows, closes, runs};
 
 // What the machine carries from one instruction to the next: where it stands, its mode, the future if one is promised, the words of tasks.

@@ -18,3 +18,7 @@ elapsed-unique from to d a b l = omega arith
 -- Counts by size say nothing: the same stretch of time, wherever it begins.
 pub elapsed-shifts : (from d : ℕ) → from < 2 ^ 32 → d < 2 ^ 32 → elapsed from ((from + d) % 2 ^ 32) ≡ d
 elapsed-shifts from d a b = omega arith
+
+-- Only the difference matters: two counts moved on alike are as far apart.
+pub elapsed-relative : (from to d : ℕ) → from < 2 ^ 32 → to < 2 ^ 32 → elapsed ((from + d) % 2 ^ 32) ((to + d) % 2 ^ 32) ≡ elapsed from to
+elapsed-relative from to d a b = omega arith

@@ -8,6 +8,7 @@ pub mod InstantLaws
 pub mod NextInstant
 pub mod ClockLaws
 pub mod Accepted
+pub mod Switches
 pub mod Standings
 pub mod Ticks
 pub mod Lates
@@ -22,4 +23,5 @@ pub mod PortLaws
 pub mod Changes
 pub mod PortsAfter
 pub mod NothingEarly
+pub mod HistoryCases
 pub mod Cases
