@@ -1,3 +1,4 @@
-// The docks keep the timing rules: the code that a module prescribes, obeyed by the machine, is what the rules say.
-// Promises, as theorems (specs/): demand 3, from a module's rules to the machine's ports, for every history of calls.
-// Builds on prescribed, refusals, timing, machine, file and model.
+// The docks keep the timing rules: the code that a module prescribes, obeyed over the tasks' standings, is what the rules say.
+// Promises, as theorems (specs/): a reaction is an instant of the rules (Reacts), every history of calls is answered as the rules answer it (Histories),
+// and what reactions count is what the rules release and end (Counts, DockCounts).
+// Builds on timing, machine and model.

@@ -26,7 +26,7 @@ module _ (M : Module) where
   shown [] v = []
   shown (a ∷ rest) v = ask M a v ∷ shown rest (ask M a v .view)
 
-  -- (6) Two histories that begin alike show the same as long as they are alike: later readings and results enter only later.
+  -- Two histories that begin alike show the same as long as they are alike: later readings and results enter only later.
   pub causal : (first later other : List Ask) (v : View) → take (length first) (shown (first ++ later) v) ≡ take (length first) (shown (first ++ other) v)
   causal [] later other v = refl
   causal (a ∷ first) later other v = ap (λ (l : List Said). ask M a v ∷ l) (causal first later other (ask M a v .view))

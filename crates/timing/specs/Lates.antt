@@ -110,7 +110,7 @@ module _ (M : Module) where
   abbrev pub endingNext : View → List (Act Call)
   endingNext v = closing (modeAt M (v .place .mode) .period) (nextTime M v) (modeAt M (v .place .mode) .calls)
 
-  -- (3) A tick that ends the slot of a task that is out and unfinished answers 40 with the first such task in text order, at that very instant;
+  -- A tick that ends the slot of a task that is out and unfinished answers 40 with the first such task in text order, at that very instant;
   -- everything else is as before the call.
   pub late-falls : (v : View) (count : ℕ) (types words : List ℕ) (task : ℕ) → Due M v count types words → firstLate (endingNext v) (v .place .store .tasks) ≡ some task
       → ask M (tick count types words) v ≡ record { reply = fell task; view = record { place = v .place; clock = v .clock; stopped = some task } }
@@ -157,7 +157,7 @@ module _ (M : Module) where
       let z : _≡_ {A = ℕ} 0 1 = cc in
       omega arith
 
-  -- (2) If every released task is finished before the tick that ends its slot, there is no fault.
+  -- If every released task is finished before the tick that ends its slot, there is no fault.
   pub no-fault : (asks : List Ask) (v : View) → Prompt asks v → Each NoFault (replies M asks v)
   no-fault [] v p = tt
   no-fault (a ∷ rest) v p = (never-falls a v (p .0), no-fault rest (ask M a v .view) (p .1))

@@ -104,7 +104,7 @@ module _ (M : Module) (W : Accepted M) (A : Aimed M) (v : View) (f : Fit M (v .p
   shown : (m : Reacts M a v after) (i : ℕ) → wordAfter i ≡ getD (m .at .store .ports) i 0
   shown m i = ap (λ (u : View). getD (u .place .store .ports) i 0) (m .shows)
 
-  -- (4) An output port changes only at an instant at which a slot of its task ends, to the results finished in that slot.
+  -- An output port changes only at an instant at which a slot of its task ends, to the results finished in that slot.
   pub record HandsOver (task n : ℕ) : Type 0 where
     pub reacts : ask M a v .reply ≡ reacted
     pub ends : among task (tasksOf (endingNext M v)) ≡ true

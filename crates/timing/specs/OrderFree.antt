@@ -213,7 +213,7 @@ module _ (M : Module) (readings : ℕ → List ℕ) (results : ℕ → ℕ → L
           go true = refl
           go false = refl
 
-  -- (8) Two histories from one start that keep to the readings and results, in time, and have served as many due ticks:
+  -- Two histories from one start that keep to the readings and results, in time, and have served as many due ticks:
   -- after each due tick they show the same mode, ports and tasks out, and released the same tasks.
   pub order-free : (count : ℕ) (words : List ℕ) (l n : List Ask) → Keeps M readings results l (started M count words) 0 (λ j. 0) → Keeps M readings results n (started M count words) 0 (λ j. 0)
       → dues M l (started M count words) ≡ dues M n (started M count words) → SameRun M (started M count words) l n

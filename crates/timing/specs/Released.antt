@@ -138,7 +138,7 @@ module _ (M : Module) where
   pub start-there : (count : ℕ) (words : List ℕ) → Entered (started M count words .place)
   start-there count words = let c = start-came count words in record { from = sensed M words (beginning M); store = c .0; released = c .1 }
 
-  -- (7) The tasks released at a due tick are those whose slot begins then, in the mode that is entered, and whose guard holds.
+  -- The tasks released at a due tick are those whose slot begins then, in the mode that is entered, and whose guard holds.
   pub releases-at-due : (a : Ask) (v : View) → ask M a v .reply ≡ reacted → Entered (ask M a v .view .place)
   releases-at-due a v e =
       let m = meaning M v a reacted e in

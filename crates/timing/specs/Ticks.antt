@@ -64,7 +64,7 @@ module _ (M : Module) where
     pub missed-tick : Taken v types words → remains M (v .place) < elapsed (v .clock) count → ask M (tick count types words) v ≡ stay M v (refused 33)
     missed-tick t h = taken-tick t ∙ ap (λ (i : Instant). ticked M v count words i) (judged-missed (elapsed (v .clock) count) (remains M (v .place)) h)
 
-  -- ---- (5) An instant that was missed
+  -- ---- An instant that was missed
 
   -- The count that is due: what remains, added to the last accepted count, running over.
   abbrev pub dueCount : View → ℕ
@@ -190,7 +190,7 @@ module _ (M : Module) where
     meant next none e = meant-handed (lowest 0 (v .place .store .tasks)) refl
     meant (finish task types words) none e = meant-finished task types words (getD (v .place .store .tasks) task idle) refl
 
-    -- (4) Between due ticks nothing changes but clock, time and how far tasks have come: every call does what its reply says, and no more.
+    -- Between due ticks nothing changes but clock, time and how far tasks have come: every call does what its reply says, and no more.
     pub each-means : (a : Ask) → Means a v (ask M a v .reply) (ask M a v .view)
     unfolding ask
     each-means a = meant a (v .stopped) refl
