@@ -150,9 +150,11 @@ module _ (M : Module) where
         go (inr h) = ap (λ (l : List ℕ). stood l (shown s .tasks)) (same h)
 
     copied : (task : ℕ) (sources : List ℕ) (s : Store) → DriverFits (releases task sources) → Good s → Kept (driven b aside (releases task sources) s) (S.driven M (releases task sources) (shown s))
-    copied task sources s fits good =
-        (ap (λ (l : List ℕ). stood l (shown s .tasks))
-        (sym (take-copy (ports M) (lotOf b aside task .inputs) sources (s .ports) (fits .1) ∙ ap (λ (x : Lot). copyTo (x .inputs) sources (take (ports M) (s .ports))) (board-lot M task (fits .0)))), good)
+    copied task sources s fits good = (
+      ap (λ (l : List ℕ). stood l (shown s .tasks))
+          (sym (take-copy (ports M) (lotOf b aside task .inputs) sources (s .ports) (fits .1) ∙ ap (λ (x : Lot). copyTo (x .inputs) sources (take (ports M) (s .ports))) (board-lot M task (fits .0)))),
+      good,
+    )
 
     standing : (task : ℕ) (s : Store) → task < tasks M → S.standing M (shown s) task ≡ standAt M aside (s .out) (s .waiting) (s .finished) task
     standing task s l = stands-at M aside (s .out) (s .waiting) (s .finished) task l
@@ -174,12 +176,13 @@ module _ (M : Module) where
         go true o true w true f =
             let q = fitting-done (has (s .out) task) (has (s .waiting) task) (rw f at (good .fits task)) .1 in
             let c : _≡_ {A = ℕ} 0 1 = cc in absurd (omega arith)
-        go true o false w true f =
-            (ap₂ stood
-            (sym (take-place (ports M) (lotOf b aside task .outputs) (part aside (task * portRoom) (lotOf b aside task .results)) (s .ports)
-            ∙ ap₂ (λ (i : ℕ) (r : List ℕ). place i r (take (ports M) (s .ports))) outs results))
-            (ended-tasks M aside (s .out) (s .waiting) (s .finished) task l (W .few-tasks)),
-            ended-neat M aside (s .out) (s .waiting) (s .finished) task l (W .few-tasks) good f)
+        go true o false w true f = (
+          ap₂ stood
+              (sym (take-place (ports M) (lotOf b aside task .outputs) (part aside (task * portRoom) (lotOf b aside task .results)) (s .ports)
+              ∙ ap₂ (λ (i : ℕ) (r : List ℕ). place i r (take (ports M) (s .ports))) outs results))
+              (ended-tasks M aside (s .out) (s .waiting) (s .finished) task l (W .few-tasks)),
+          ended-neat M aside (s .out) (s .waiting) (s .finished) task l (W .few-tasks) good f,
+        )
 
     begun : (task : ℕ) (s : Store) → task < tasks M → Good s → Kept (released b aside task s (has (s .out) task)) (S.begunBy M task (shown s) (S.standing M (shown s) task))
     begun task s l good = rw (standing task s l) (go (has (s .out) task) refl (has (s .waiting) task) (has (s .finished) task))
@@ -188,9 +191,10 @@ module _ (M : Module) where
         go true o true z = refl
         go true o false true = refl
         go true o false false = refl
-        go false o y z =
-            (ap (λ (q : List Standing). stood (take (ports M) (s .ports)) q) (begun-tasks M aside (s .out) (s .waiting) (s .finished) task l (W .few-tasks)),
-            begun-neat M aside (s .out) (s .waiting) (s .finished) task l (W .few-tasks) good o)
+        go false o y z = (
+          ap (λ (q : List Standing). stood (take (ports M) (s .ports)) q) (begun-tasks M aside (s .out) (s .waiting) (s .finished) task l (W .few-tasks)),
+          begun-neat M aside (s .out) (s .waiting) (s .finished) task l (W .few-tasks) good o,
+        )
 
     drive : (d : Driver) (s : Store) → DriverFits d → Good s → Kept (driven b aside d s) (S.driven M d (shown s))
     drive (updates source target) s fits good = updated source target s fits good

@@ -26,7 +26,7 @@ abbrev pub guardRow : Guard → GuardRow
 guardRow guard =
     record {
       function = getD functionNames (functionNumber (guard .function)) [];
-      arguments = take (operandsOf (guard .function)) (argumentOf (guard .first) ∷ argumentOf (guard .second) ∷ [])
+      arguments = take (operandsOf (guard .function)) (argumentOf (guard .first) ∷ argumentOf (guard .second) ∷ []);
     }
 
 -- a mode and where its code begins
@@ -45,5 +45,5 @@ tableOf M =
       drivers = driversOf M;
       guards = map guardRow (M .guards);
       modes = modeRows (M .modes) (beginsOf M);
-      code = codeOf M
+      code = codeOf M;
     }
