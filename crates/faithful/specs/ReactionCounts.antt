@@ -1,20 +1,18 @@
 -- What a dock's reaction counts is what the rules say: as many releases as tasks released, as many terminations as tasks ended that were out.
-use Prim.Native.Nat.{ℕ, zero, suc, _+_, _<_}
+use Prim.Native.Nat.{ℕ, _+_, _<_}
 use native.Mathlib.Omega.{arith}
 use mathlib.Core.Path.{_≡_, refl, _∙_, ap, subst}
-use mathlib.Core.Bool.{Bool, true, false, cond}
 use mathlib.Core.Option.{none}
 use mathlib.Core.List.{List, [], _∷_}
 use lib.ListN.{length, getD, drop, set, length-set}
 use Rattle.model.specs.Modules.{Module, Task, Act, Call, place, copyTo}
 use Rattle.model.specs.Instructions.{Instr, nop, future, call, release, iff, jump, return, switch, Driver, updates, releases, terminates}
 use Rattle.timing.specs.SlotLaws.{Each}
-use Rattle.timing.specs.Rules as R
-use Rattle.timing.specs.Rules.{Standing, idle, ready, running, done, Store, Outcome, well, Place, sensed, inputsOf, outputsOf, ended, terminations, passes, begun, releasedBy}
+use Rattle.timing.specs.Rules.{Standing, idle, ready, running, done, Store, Outcome, well, Place, sensed, inputsOf, outputsOf, ended, terminations, begun}
 use Rattle.timing.specs.Accepted.{Accepted}
 use Rattle.timing.specs.Calls.{View, beginning, startMode, started}
 use Rattle.timing.specs.Code.{codeOf, beginsOf}
-use Rattle.timing.specs.Standings.{isOut, howManyOut, split, beginning-idle}
+use Rattle.timing.specs.Standings.{isOut, howMany, howManyOut, split, beginning-idle}
 use Rattle.timing.specs.Ticks.{nextTime, atNext}
 use Rattle.timing.specs.Lates.{endingNext}
 use Rattle.timing.specs.Released.{beginningThere, updatedAt, start-came}
@@ -22,12 +20,11 @@ use Rattle.timing.specs.PortLaws.{mapped}
 use Rattle.timing.specs.Changes.{Ending, not-out, handed-over, ending}
 use Rattle.machine.specs.Instructions.{Res, ok, bad, Halt, Tally, noTally, counted}
 use Rattle.faithful.specs.Stands.{resOf, standOps, driven, driverAt, endingBy, begunBy}
-use Rattle.faithful.specs.Tasks.{Free, set-free}
 use Rattle.faithful.specs.Held.{Held, next-held, start-held}
 use Rattle.faithful.specs.Syncs.{at}
 use Rattle.faithful.specs.Reacts.{reacting, Agrees, reaction, beginning-run}
 use Rattle.faithful.specs.Histories.{Waiting}
-use Rattle.faithful.specs.Counts.{endedOut, out-changes, out-begins, terms-count, releases-count, begun-known}
+use Rattle.faithful.specs.Counts.{endedOut, one-changes, one-begins, FromRelease, out-counts, terms-count, releases-count, begun-known}
 use Rattle.faithful.specs.Tallies.{each-drop, Kept, run-keeps}
 
 -- Every task that is released is one of n.
@@ -50,18 +47,10 @@ isReady running = 0
 isReady (done results) = 0
 
 abbrev howManyReady : List Standing → ℕ
-howManyReady [] = 0
-howManyReady (x ∷ l) = isReady x + howManyReady l
+howManyReady l = howMany isReady l
 
-ready-ends : (l : List Standing) (t : ℕ) (x : Standing) → getD l t idle ≡ x → isReady x ≡ 0 → howManyReady (set l t idle) ≡ howManyReady l
-ready-ends [] t x e o = refl
-ready-ends (a ∷ l) zero x e o = let h : isReady a ≡ isReady x = ap isReady e in omega arith
-ready-ends (a ∷ l) (suc t) x e o = let h = ready-ends l t x e o in omega arith
-
-ready-begins : (l : List Standing) (t : ℕ) → t < length l → getD l t idle ≡ idle → howManyReady (set l t ready) ≡ howManyReady l + 1
-ready-begins [] t lt e = absurd (omega arith)
-ready-begins (a ∷ l) zero lt e = let h : isReady a ≡ 0 = ap isReady e in omega arith
-ready-begins (a ∷ l) (suc t) lt e = let h = ready-begins l t (omega arith) e in omega arith
+ready-counts : FromRelease isReady
+ready-counts = record { not-idle = refl; if-ready = refl }
 
 module _ (M : Module) where
   -- ---- by the rules
@@ -72,25 +61,7 @@ module _ (M : Module) where
     where
       go : (w : Store) → Ending M (a .what .task) s w → howManyReady (w .tasks) ≡ howManyReady (s .tasks)
       go w (not-out e h) = rw (← h) refl
-      go w (handed-over results e h) = rw (← h) (ready-ends (s .tasks) (a .what .task) (done results) e refl)
-
-  ready-releases : (acts : List (Act Call)) (s : Store) → Free acts s → Each (λ a. a .what .task < length (s .tasks)) acts → howManyReady (R.releases M acts s .tasks) ≡ howManyReady (s .tasks) + length (releasedBy M acts s)
-  ready-releases [] s f w = omega arith
-  ready-releases (a ∷ acts) s f w =
-      let on = ready-releases acts (begun M (a .what) s) (f .0 .1, set-free acts s _ (a .what .task) ready (f .0 .0) (f .1 .1)) (longer acts (w .1)) in
-      let off = ready-releases acts s (f .0 .1, f .1 .1) (w .1) in
-      go (passes M (a .guard) (s .ports)) on off
-    where
-      longer : (l : List (Act Call)) → Each (λ b. b .what .task < length (s .tasks)) l → Each (λ b. b .what .task < length (begun M (a .what) s .tasks)) l
-      longer [] x = tt
-      longer (b ∷ l) x = (rw length-set (x .0), longer l (x .1))
-
-      go : (y : Bool) → howManyReady (R.releases M acts (begun M (a .what) s) .tasks) ≡ howManyReady (begun M (a .what) s .tasks) + length (releasedBy M acts (begun M (a .what) s))
-          → howManyReady (R.releases M acts s .tasks) ≡ howManyReady (s .tasks) + length (releasedBy M acts s)
-          → howManyReady (R.releases M acts (cond y (begun M (a .what) s) s) .tasks)
-          ≡ howManyReady (s .tasks) + length (cond y (a .what .task ∷ releasedBy M acts (cond y (begun M (a .what) s) s)) (releasedBy M acts (cond y (begun M (a .what) s) s)))
-      go true on off = let b = ready-begins (s .tasks) (a .what .task) (w .0) (f .1 .0) in omega arith
-      go false on off = off
+      go w (handed-over results e h) = rw (← h) (let c = one-changes isReady (s .tasks) (a .what .task) (done results) idle e refl in omega arith)
 
   -- ---- by the code: what a run counts, against the tasks out and the tasks ready before it
 
@@ -115,8 +86,8 @@ module _ (M : Module) where
         go (done results) q =
             let h : record { ports = place (outputsOf M t) results (s .ports); tasks = set (s .tasks) t idle } ≡ v = cc (rw q at e) in
             let i : isOut (getD (s .tasks) t idle) ≡ 1 = ap isOut q in
-            let c = out-changes (s .tasks) t (done results) idle q refl in
-            let d = ready-ends (s .tasks) t (done results) q refl in
+            let c = one-changes isOut (s .tasks) t (done results) idle q refl in
+            let d = one-changes isReady (s .tasks) t (done results) idle q refl in
             let x = w .outs in
             let y = w .readies in
             rw (← h) (record { outs = omega arith; readies = omega arith; many = length-set (s .tasks) t idle ∙ w .many })
@@ -141,8 +112,8 @@ module _ (M : Module) where
         go idle q =
             let h : record { ports = s .ports; tasks = set (s .tasks) t ready } ≡ v = cc (rw q at e) in
             let l = w .many in
-            let c = out-begins (s .tasks) t (omega arith) q in
-            let d = ready-begins (s .tasks) t (omega arith) q in
+            let c = one-begins isOut out-counts (s .tasks) t (omega arith) q in
+            let d = one-begins isReady ready-counts (s .tasks) t (omega arith) q in
             let x = w .outs in
             let y = w .readies in
             rw (← h) (record { outs = omega arith; readies = omega arith; many = length-set (s .tasks) t ready ∙ w .many })
@@ -187,8 +158,8 @@ module _ (M : Module) (W : Accepted M) (sane : Each (Within (length (M .tasks)))
       let t1 = ready-terms M (endingNext M v) s (c .ended) (c .terms) in
       let u = updatedAt M (v .place .mode) (nextTime M v) (c .ended) in
       let known : Each (λ a. a .what .task < length (u .tasks)) (beginningThere M w) = let x = t .1 in rw x (rw l (begun-known M W w (n .held .known))) in
-      let r = releases-count M (beginningThere M w) u (n .free) known in
-      let r1 = ready-releases M (beginningThere M w) u (n .free) known in
+      let r = releases-count M isOut out-counts (beginningThere M w) u (n .free) known in
+      let r1 = releases-count M isReady ready-counts (beginningThere M w) u (n .free) known .0 in
       let outs = ap (λ (x : Store). howManyOut (x .tasks)) (c .store) in
       let readies = ap (λ (x : Store). howManyReady (x .tasks)) (c .store) in
       let many = ap (λ (x : List ℕ). length x) (c .released) in
@@ -215,8 +186,8 @@ module _ (M : Module) (W : Accepted M) (sane : Each (Within (length (M .tasks)))
       let (store, released) = start-came M count words in
       let all : length (beginning M .tasks) ≡ length (M .tasks) = mapped (λ (task : Task). idle) (M .tasks) in
       let known : Each (λ a. a .what .task < length (s .tasks)) (beginningThere M w) = rw all (begun-known M W w (held .known)) in
-      let (outs, long) = releases-count M (beginningThere M w) s free known in
-      let readies = ready-releases M (beginningThere M w) s free known in
+      let (outs, long) = releases-count M isOut out-counts (beginningThere M w) s free known in
+      let readies = releases-count M isReady ready-counts (beginningThere M w) s free known .0 in
       let e1 = ap (λ (x : Store). howManyOut (x .tasks)) store in
       let e2 = ap (λ (x : Store). howManyReady (x .tasks)) store in
       let e3 = ap (λ (x : List ℕ). length x) released in

@@ -22,9 +22,12 @@ abbrev pub whichOut : List Standing → List ℕ
 whichOut [] = []
 whichOut (x ∷ l) = isOut x ∷ whichOut l
 
+abbrev pub howMany : (Standing → ℕ) → List Standing → ℕ
+howMany counts [] = 0
+howMany counts (x ∷ l) = counts x + howMany counts l
+
 abbrev pub howManyOut : List Standing → ℕ
-howManyOut [] = 0
-howManyOut (x ∷ l) = isOut x + howManyOut l
+howManyOut l = howMany isOut l
 
 -- The task that is handed out is one released and not yet handed out.
 pub found : (n t : ℕ) (l : List Standing) → lowest n l ≡ some t → (i : ℕ) × (t ≡ n + i) × (getD l i idle ≡ ready)

@@ -1,8 +1,8 @@
 -- The first switch whose guard holds wins, and none is taken where none holds.
 use Prim.Native.Nat.{ℕ}
 use mathlib.Core.Path.{_≡_, refl}
-use mathlib.Core.Bool.{Bool, true, false}
-use mathlib.Core.Option.{Option, none, some}
+use mathlib.Core.Bool.{true, false}
+use mathlib.Core.Option.{none, some}
 use mathlib.Core.List.{List, [], _∷_, _++_}
 use Rattle.model.specs.Modules.{Module, Act}
 use Rattle.timing.specs.SlotLaws.{Each}
