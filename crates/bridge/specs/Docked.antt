@@ -27,10 +27,10 @@ use Rattle.machine.specs.Instructions.{Res, ok, bad, Halt, Run, Tally, noTally,
 use Rattle.machine.specs.Store.{Store, reaction, storeOps}
 use Rattle.machine.specs.Calls as K
 use Rattle.machine.specs.Calls.{State, Ticked, Handed, Finished, stoppedBy, faulted, cameTo, sensed, reacted, readingTypes, resultTypes, idled, byInstant, tick, handedOut, nextTask, withWords, atWork, finish}
-use Rattle.faithful.specs.Stands.{standOps}
-use Rattle.faithful.specs.Reacts.{reacting}
-use Rattle.faithful.specs.Docks as D
-use Rattle.faithful.specs.Docks.{Answer, ticking, turning, finishing, Dock, Told, asked, answered}
+use Rattle.timing.specs.Stands.{standOps}
+use Rattle.timing.specs.Reacts.{reacting}
+use Rattle.timing.specs.Docks as D
+use Rattle.timing.specs.Docks.{Answer, ticking, turning, finishing, Dock, Told, asked, answered}
 use Rattle.bridge.specs.Boards.{board, board-code, board-readings, board-results}
 use Rattle.bridge.specs.Carried.{Ends, Same}
 use Rattle.bridge.specs.Views.{take-place, standOf, Fitting, tasks, resultsOf, rowOf, standAt, standings, view, Neat, stands, handed-tasks, handed-neat, finished-neat}

@@ -27,9 +27,9 @@ use Rattle.machine.specs.Calls.{State, Ticked, reacted, readingTypes}
 use Rattle.machine.specs.Starts.{fresh, startOn, start}
 use Rattle.file.specs.Files.{sound}
 use Rattle.prescribed.specs.Tables.{tableOf}
-use Rattle.faithful.specs.Docks as D
-use Rattle.faithful.specs.Docks.{Answer, ticking, replyTo, Dock, Told, asked, newDock, startedDock, answers, leaves}
-use Rattle.faithful.specs.Histories.{shadow, Both, Alike, start-both, histories-agree, no-other-fault}
+use Rattle.timing.specs.Docks as D
+use Rattle.timing.specs.Docks.{Answer, ticking, replyTo, Dock, Told, asked, newDock, startedDock, answers, leaves}
+use Rattle.timing.specs.Histories.{shadow, Both, Alike, start-both, histories-agree, no-other-fault}
 use Rattle.bridge.specs.Boards.{board, board-begin, board-start, board-readings}
 use Rattle.bridge.specs.Tabulated.{tab}
 use Rattle.bridge.specs.Views.{standOf, tasks, standAt, standings, view, Neat}

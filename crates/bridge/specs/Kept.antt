@@ -29,9 +29,9 @@ use Rattle.machine.specs.Boards.{Board, Lot}
 use Rattle.machine.specs.Instructions as E
 use Rattle.machine.specs.Instructions.{Res, ok, bad, Ops, Future, Tally, Run, exec}
 use Rattle.machine.specs.Store.{Store, part, lotOf, ended, released, driven, endingBy, storeOps, withPorts}
-use Rattle.faithful.specs.Stands as S
+use Rattle.timing.specs.Stands as S
 use Rattle.timing.specs.Standings.{isOut}
-use Rattle.faithful.specs.Stands.{standOps}
+use Rattle.timing.specs.Stands.{standOps}
 use Rattle.bridge.specs.Boards.{board, board-code, board-driver, board-guard, board-begin, board-lot}
 use Rattle.bridge.specs.Carried.{All, all-drop, Both, Keeps, Same, runs}
 use Rattle.bridge.specs.Sane.{Sane, code-sane}

@@ -13,7 +13,7 @@ use Rattle.timing.specs.SlotLaws.{Each}
 use Rattle.timing.specs.Rules.{noMode}
 use Rattle.timing.specs.Accepted.{Accepted, ModeFits, CallFits, UpdateFits, Guarded}
 use Rattle.timing.specs.Code.{Piece, _⊕_, fixed, guarded, pieces, terminating, Driven, drivenFrom, drivenUpdates, drivenCalls, updating, switching, releasing, front, await, back, laterBlocks, instantsOf, firstOr, modeCode, modeDriverCount, codeFrom, codeOf}
-use Rattle.faithful.specs.Placed.{each-keep}
+use Rattle.timing.specs.Placed.{each-keep}
 use Rattle.bridge.specs.Carried.{All, all-append}
 
 module _ (M : Module) where

@@ -8,17 +8,17 @@ use mathlib.Core.List.{List, [], _∷_, _++_, append-assoc}
 use lib.ListN.{length, drop, length-append}
 use Rattle.model.specs.Modules.{Module, Mode, Act, Call, Update}
 use Rattle.model.specs.Instructions.{Instr, nop, future}
 use Rattle.timing.specs.Slots.{closing, opening, endsAt, beginsAt}
 use Rattle.timing.specs.SlotLaws.{Each}
 use Rattle.timing.specs.Rules as R
 use Rattle.timing.specs.Rules.{Store, well, late, chosen, terminations}
 use Rattle.timing.specs.Code.{Piece, _⊕_, fixed, pieces, terminating, updating, switching, releasing, drivenUpdates, drivenCalls, front, await, back}
 use Rattle.machine.specs.Instructions as E
 use Rattle.machine.specs.Instructions.{Res, ok, bad, Tally, Future, Halt, exec}
-use Rattle.faithful.specs.Stands.{acts, update, acts-releases}
-use Rattle.faithful.specs.Runs.{Ends, Does, weaken, follow, marks, terms, terms-late, updates-run, picks, dest, into, obeyed, plainAll, Terminates, Updates}
-use Rattle.faithful.specs.Tasks.{Free, Releases, releases-run}
-use Rattle.faithful.specs.Placed.{plain-closing, plain-opening, each-keep}
+use Rattle.timing.specs.Stands.{acts, update, acts-releases}
+use Rattle.timing.specs.Runs.{Ends, Does, weaken, follow, marks, terms, terms-late, updates-run, picks, dest, into, obeyed, plainAll, Terminates, Updates}
+use Rattle.timing.specs.Tasks.{Free, Releases, releases-run}
+use Rattle.timing.specs.Placed.{plain-closing, plain-opening, each-keep}
 
 module _ (M : Module) (begins : List ℕ) (code : List Instr) where
   -- A mode whose drivers stand from n on.

@@ -10,16 +10,16 @@ use lib.ListN.{getD, set}
 use lib.Seq.{getD-set-other}
 use Rattle.model.specs.Modules.{Module, Act, Call, Update, copyTo}
 use Rattle.model.specs.Instructions.{Instr, release, releases}
 use Rattle.timing.specs.Slots.{keep}
 use Rattle.timing.specs.SlotLaws.{Each}
 use Rattle.timing.specs.Accepted.{Absent, Distinct}
 use Rattle.timing.specs.Standings.{terminated, split}
 use Rattle.timing.specs.Rules as R
 use Rattle.timing.specs.Rules.{Standing, idle, ready, Store, well, passes, terminations, inputsOf}
 use Rattle.timing.specs.Code.{fixed, pieces, Driven, releasing}
 use Rattle.machine.specs.Instructions.{counted, exec}
-use Rattle.faithful.specs.Stands.{driverAt, standOps, acts, update, withPorts}
-use Rattle.faithful.specs.Runs.{Does, stepped, weaken, all, plainAll}
+use Rattle.timing.specs.Stands.{driverAt, standOps, acts, update, withPorts}
+use Rattle.timing.specs.Runs.{Does, stepped, weaken, all, plainAll}
 
 abbrev pub Idle : Store → ℕ → Type 0
 Idle s t = getD (s .tasks) t idle ≡ idle

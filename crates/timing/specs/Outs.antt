@@ -7,14 +7,14 @@ use mathlib.Core.Option.{some}
 use mathlib.Core.List.{List, [], _∷_}
 use lib.ListN.{length}
 use Rattle.model.specs.Modules.{Module, Mode, Act, Call}
 use Rattle.timing.specs.Slots.{keep, closing, opening, endsAt, beginsAt, liveAt, amidAt}
 use Rattle.timing.specs.SlotLaws.{Each, each-zip, Fits, Midst, staysAt, begun-live, midst-live, midst-begins, midst-before}
 use Rattle.timing.specs.Rules as R
 use Rattle.timing.specs.Rules.{Store, well, modeAt, nextInstant, passes, chosen, terminations}
 use Rattle.timing.specs.InstantLaws.{at-next}
 use Rattle.timing.specs.Accepted.{Absent, Leads, Accepted}
-use Rattle.faithful.specs.Stands.{acts, acts-releases}
-use Rattle.faithful.specs.Tasks.{Idle, Free, begins-keep, left-out, all-idle, distinct-keep, absent-if, absent-split, absent-none, idle-others}
+use Rattle.timing.specs.Stands.{acts, acts-releases}
+use Rattle.timing.specs.Tasks.{Idle, Free, begins-keep, left-out, all-idle, distinct-keep, absent-if, absent-split, absent-none, idle-others}
 
 bar : (t time p : ℕ) (c : Act Call) → Fits p c → Midst p time t c → beginsAt p t c ≡ true → staysAt p time t c ≡ false
 bar t time p c f m h = go (staysAt p time t c) refl

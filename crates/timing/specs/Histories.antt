@@ -10,24 +10,24 @@ use lib.Dec.{ltb, eqb}
 use borrow.Author.Tests.{ltb-true}
 use Rattle.model.specs.Clock.{elapsed, early, due, missed, judged, fits}
 use Rattle.model.specs.Modules.{Module}
 use Rattle.timing.specs.Slots.{liveAt}
 use Rattle.timing.specs.SlotLaws.{Each}
 use Rattle.timing.specs.Rules.{Standing, idle, ready, running, done, Store, Outcome, well, late, Place, modeAt, nextInstant, sensed, entered, instant}
 use Rattle.timing.specs.InstantLaws.{next-le, next-same, till-next}
 use Rattle.timing.specs.Accepted.{Accepted}
 use Rattle.timing.specs.Standings.{handed-ready, beginning-idle}
 use Rattle.timing.specs.Calls as C
 use Rattle.timing.specs.Calls.{Ask, tick, next, finish, Reply, View, Said, lowest, remains, readingTypes, resultTypes, answer, ask, ticked, handed, finished, startMode, beginning, started, replies, comes}
 use Rattle.machine.specs.declared.Reaction.the-variants.{Fault}
 use Rattle.machine.specs.declared.Finishing.the-variants as F
 use Rattle.machine.specs.Instructions as E
 use Rattle.machine.specs.Instructions.{Res, ok, bad, Halt, Tally}
-use Rattle.faithful.specs.Tasks.{absent-if}
-use Rattle.faithful.specs.Held.{change}
-use Rattle.faithful.specs.Syncs.{at, Sync}
-use Rattle.faithful.specs.Outs.{Quiet}
-use Rattle.faithful.specs.Reacts.{reacting, Agrees, reaction, beginning-run}
-use Rattle.faithful.specs.Docks.{Answer, ticking, finishing, replyTo, Dock, Told, cameTo, withTasks, byInstant, handedOut, finishedBy, answered, asked, newDock, startedDock, answers, leaves}
+use Rattle.timing.specs.Tasks.{absent-if}
+use Rattle.timing.specs.Held.{change}
+use Rattle.timing.specs.Syncs.{at, Sync}
+use Rattle.timing.specs.Outs.{Quiet}
+use Rattle.timing.specs.Reacts.{reacting, Agrees, reaction, beginning-run}
+use Rattle.timing.specs.Docks.{Answer, ticking, finishing, replyTo, Dock, Told, cameTo, withTasks, byInstant, handedOut, finishedBy, answered, asked, newDock, startedDock, answers, leaves}
 
 -- the fault that stopped it: 40
 abbrev pub stopOf : Option ℕ → Option E.Fault

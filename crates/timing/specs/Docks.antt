@@ -18,7 +18,7 @@ use Rattle.machine.specs.declared.Finishing.{Finishing}
 use Rattle.machine.specs.declared.Finishing.the-variants as F
 use Rattle.machine.specs.Instructions as E
 use Rattle.machine.specs.Instructions.{Res, ok, bad, Halt, Tally}
-use Rattle.faithful.specs.Reacts.{reacting}
+use Rattle.timing.specs.Reacts.{reacting}
 
 -- ---- answers, and what they are in the rules' words
 

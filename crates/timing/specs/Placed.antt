@@ -9,13 +9,13 @@ use lib.ListN.{length, getD, drop, length-append, List·getD-append}
 use lib.Seq.{drop-append-seam, drop-drop, getD-drop}
 use Rattle.model.specs.Modules.{Module, Mode, Task, Act, each}
 use Rattle.model.specs.Instructions.{Instr, Driver, updates, terminates, noDriver}
 use Rattle.timing.specs.Slots.{keep, closing, opening, endsAt, beginsAt, spans}
 use Rattle.timing.specs.SlotLaws.{Each}
 pub use Rattle.timing.specs.SlotLaws.{each-keep}
 use Rattle.timing.specs.Rules.{noMode}
 use Rattle.timing.specs.Code.{modeCode, codeFrom, beginsFrom, modeDriverCount, modeDrivers, driversOf, terminatesFrom, Driven, drivenFrom}
-use Rattle.faithful.specs.Runs.{plain, plainAll}
-use Rattle.faithful.specs.Stands.{driverAt}
+use Rattle.timing.specs.Runs.{plain, plainAll}
+use Rattle.timing.specs.Stands.{driverAt}
 
 -- ---- code
 

@@ -8,19 +8,19 @@ use mathlib.Core.List.{List, [], _∷_}
 use lib.ListN.{length, getD, set, length-set}
 use lib.Seq.{set-getD}
 use Rattle.model.specs.Modules.{Module, Act, Call, Task}
 use Rattle.timing.specs.Slots.{beginsAt}
 use Rattle.timing.specs.SlotLaws.{Each, each-keep}
 use Rattle.timing.specs.Rules.{Standing, idle, ready, running, done, Store, well, Place, modeAt, passes, sensed, terminations, begun, releases, releasedBy}
 use Rattle.timing.specs.Accepted.{Accepted, CallFits}
 use Rattle.timing.specs.Calls.{Ask, Reply, waits, reacted, refused, fell, given, taken, View, beginning, started, ask, comes}
 use Rattle.timing.specs.Standings.{isOut, howMany, howManyOut, split, beginning-idle}
 use Rattle.timing.specs.Ticks.{nextTime, Means, each-means}
 use Rattle.timing.specs.Lates.{endingNext}
 use Rattle.timing.specs.Released.{beginningThere, updatedAt, start-came}
 use Rattle.timing.specs.PortLaws.{mapped}
 use Rattle.timing.specs.Changes.{Ending, not-out, handed-over, ending}
-use Rattle.faithful.specs.Tasks.{Free, set-free}
-use Rattle.faithful.specs.Held.{Held, next-held, start-held, held-call}
+use Rattle.timing.specs.Tasks.{Free, set-free}
+use Rattle.timing.specs.Held.{Held, next-held, start-held, held-call}
 
 -- ---- what is counted
 

@@ -14,17 +14,17 @@ use borrow.Author.Tests.{eqb-true, eqb-false}
 use Rattle.model.specs.Modules.{Module}
 use Rattle.model.specs.Rooms.{periodRoom}
 use Rattle.model.specs.Clock.{elapsed}
 use Rattle.timing.specs.Slots.{closing, liveAt}
 use Rattle.timing.specs.Rules as R
 use Rattle.timing.specs.Rules.{Standing, idle, ready, running, done, Store, Outcome, well, Place, modeAt, nextInstant, chosen, terminations, sensed, entered, turned, afterEnds, instant}
 use Rattle.timing.specs.InstantLaws.{next-after, next-le, till-next}
 use Rattle.timing.specs.Accepted.{Accepted}
 use Rattle.timing.specs.Calls.{remains, Ask, Reply, waits, reacted, refused, fell, given, taken, View, startMode, beginning, started, ask, comes}
 use Rattle.timing.specs.Standings.{beginning-idle}
 use Rattle.timing.specs.Ticks.{Means, each-means, Taken, Due, dueCount, due-count}
 use Rattle.timing.specs.Released.{beginningThere, updatedAt, Came, instant-came}
-use Rattle.faithful.specs.Tasks.{Idle, Free, absent-if}
-use Rattle.faithful.specs.Outs.{Quiet, quiet-after, free-begin, nobody-switch, nobody-wrap, free-inside, quiet-inside}
+use Rattle.timing.specs.Tasks.{Idle, Free, absent-if}
+use Rattle.timing.specs.Outs.{Quiet, quiet-after, free-begin, nobody-switch, nobody-wrap, free-inside, quiet-inside}
 
 -- A standing that is not idle may change: what is idle stays.
 pub change : (j t : ℕ) (l : List Standing) (x y : Standing) → getD l t idle ≡ x → (x ≡ idle → ⊥) → getD l j idle ≡ idle → getD (set l t y) j idle ≡ idle

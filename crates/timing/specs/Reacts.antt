@@ -10,20 +10,20 @@ use lib.Dec.{eqb}
 use borrow.Author.Tests.{eq-eqb, ne-eqb}
 use Rattle.model.specs.Modules.{Module, Mode}
 use Rattle.model.specs.Instructions.{Instr, jump}
 use Rattle.timing.specs.Slots.{closing, opening}
 use Rattle.timing.specs.Rules as R
 use Rattle.timing.specs.Rules.{Store, Outcome, well, late, Place, modeAt, nextInstant, chosen, terminations, sensed, entered, turned, afterEnds, instant}
 use Rattle.timing.specs.InstantLaws.{first-instant, instants-cons}
 use Rattle.timing.specs.Accepted.{Accepted}
 use Rattle.timing.specs.Code.{codeOf, beginsOf, modeCode, front, laterBlocks, instantsOf, firstOr}
 use Rattle.machine.specs.Instructions as E
 use Rattle.machine.specs.Instructions.{Fault, Res, ok, bad, Halt, Run, noTally, step, exec}
-use Rattle.faithful.specs.Stands.{standOps, acts, update, acts-updates, withPorts}
-use Rattle.faithful.specs.Runs.{Ends, stepped}
-use Rattle.faithful.specs.Tasks.{Idle, Free, updates-keep}
-use Rattle.faithful.specs.Blocks.{front-run, front-late, back-ends}
-use Rattle.faithful.specs.Syncs.{base, at, code, firstDistance, beginBlock, size, Sync, begun, within, begin-size, room, driving, fresh, behindFront, backBlock, lastBlocks, block-here, back-here, block-high, advance, advance-soon}
-use Rattle.faithful.specs.Outs.{Quiet, quiet-after, free-begin, nobody-switch, nobody-wrap, free-inside, quiet-inside}
+use Rattle.timing.specs.Stands.{standOps, acts, update, acts-updates, withPorts}
+use Rattle.timing.specs.Runs.{Ends, stepped}
+use Rattle.timing.specs.Tasks.{Idle, Free, updates-keep}
+use Rattle.timing.specs.Blocks.{front-run, front-late, back-ends}
+use Rattle.timing.specs.Syncs.{base, at, code, firstDistance, beginBlock, size, Sync, begun, within, begin-size, room, driving, fresh, behindFront, backBlock, lastBlocks, block-here, back-here, block-high, advance, advance-soon}
+use Rattle.timing.specs.Outs.{Quiet, quiet-after, free-begin, nobody-switch, nobody-wrap, free-inside, quiet-inside}
 
 module _ (M : Module) where
   -- One reaction over standings, from the instruction at pc on: at most as many instructions as the code holds.

@@ -10,14 +10,14 @@ use lib.Dec.{ltb}
 use borrow.Author.Tests.{ltb-true, ltb-false}
 use Rattle.model.specs.Modules.{Module, Task, Act, Call, Update, each}
 use Rattle.model.specs.Instructions.{Instr, updates, releases}
 use Rattle.timing.specs.SlotLaws.{Each, each-zip}
 use Rattle.timing.specs.Rules.{modeAt, nextInstant}
 use Rattle.timing.specs.InstantLaws.{first-instant, instants-cons, next-after}
 use Rattle.timing.specs.Accepted.{Accepted}
 use Rattle.timing.specs.Code.{codeOf, beginsOf, modeCode, back, front, laterBlocks, instantsFrom, instantsOf, firstOr, modeDrivers, driversOf, terminatesFrom}
-use Rattle.faithful.specs.Runs.{Terminates}
-use Rattle.faithful.specs.Placed.{basesFrom, past, placed, apart, below, drivers-at, numbered, terminates-at}
-use Rattle.faithful.specs.Blocks.{Driving}
+use Rattle.timing.specs.Runs.{Terminates}
+use Rattle.timing.specs.Placed.{basesFrom, past, placed, apart, below, drivers-at, numbered, terminates-at}
+use Rattle.timing.specs.Blocks.{Driving}
 
 module _ (M : Module) where
   -- the first driver of mode k, and where its begin block stands

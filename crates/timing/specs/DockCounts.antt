@@ -6,24 +6,24 @@ use mathlib.Core.Option.{some}
 use mathlib.Core.List.{List, [], _∷_}
 use lib.ListN.{length}
 use Rattle.model.specs.Modules.{Module, Task, place}
 use Rattle.timing.specs.SlotLaws.{Each}
 use Rattle.timing.specs.Rules.{sensed, ended, begun}
 use Rattle.timing.specs.Accepted.{Accepted}
 use Rattle.timing.specs.Calls.{Ask, tick, next, finish, Reply, waits, reacted, refused, fell, given, taken, View, beginning, startMode, started, ask}
 use Rattle.timing.specs.Code.{codeOf}
 use Rattle.timing.specs.Standings.{howManyOut}
 use Rattle.timing.specs.Ticks.{Means, each-means}
 use Rattle.timing.specs.Lates.{endingNext}
 use Rattle.machine.specs.declared.Reaction.the-variants.{Obeyed, Idle, Refused, Late, Fault}
 use Rattle.machine.specs.declared.Turn.the-variants as T
 use Rattle.machine.specs.declared.Finishing.the-variants as F
 use Rattle.machine.specs.Instructions.{Tally, noTally}
-use Rattle.faithful.specs.Syncs.{at}
-use Rattle.faithful.specs.Reacts.{reacting}
-use Rattle.faithful.specs.Docks.{Answer, ticking, turning, finishing, replyTo, Dock, asked, startedDock, leaves}
-use Rattle.faithful.specs.Histories.{shadow, Waiting, call-both, start-both, histories-agree}
-use Rattle.faithful.specs.Counts.{endedOut, ifReacted, releasesIn, endingsIn, same-many, start-many, count-law}
-use Rattle.faithful.specs.ReactionCounts.{Within, reaction-counts, start-counts}
+use Rattle.timing.specs.Syncs.{at}
+use Rattle.timing.specs.Reacts.{reacting}
+use Rattle.timing.specs.Docks.{Answer, ticking, turning, finishing, replyTo, Dock, asked, startedDock, leaves}
+use Rattle.timing.specs.Histories.{shadow, Waiting, call-both, start-both, histories-agree}
+use Rattle.timing.specs.Counts.{endedOut, ifReacted, releasesIn, endingsIn, same-many, start-many, count-law}
+use Rattle.timing.specs.ReactionCounts.{Within, reaction-counts, start-counts}
 
 -- only a reaction that was answered with its instructions counts
 abbrev pub obeyedOnly : Answer → Tally → Tally

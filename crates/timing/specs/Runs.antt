@@ -10,13 +10,13 @@ use lib.ListN.{length, getD, drop, length-append}
 use lib.Seq.{drop-append-seam, drop-drop}
 use Rattle.model.specs.Modules.{Module, Act, Call, Update}
 use Rattle.model.specs.Instructions.{Instr, nop, call, iff, switch, updates, terminates}
 use Rattle.timing.specs.SlotLaws.{Each}
 use Rattle.timing.specs.Rules as R
 use Rattle.timing.specs.Rules.{Store, Outcome, well, late, passes, chosen, terminations}
 use Rattle.timing.specs.Code.{Piece, _⊕_, fixed, guarded, pieces, terminating, Driven, updating, switching}
 use Rattle.machine.specs.Instructions as E
 use Rattle.machine.specs.Instructions.{Res, ok, bad, Tally, step, counted, Future, Halt, Run, exec}
-use Rattle.faithful.specs.Stands.{resOf, standing, driven, driverAt, standOps, acts, update}
+use Rattle.timing.specs.Stands.{resOf, standing, driven, driverAt, standOps, acts, update}
 
 -- an activity without its driver's number
 abbrev pub plain : {A : Type 0} → Act (Driven A) → Act A

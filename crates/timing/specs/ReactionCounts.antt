@@ -7,25 +7,25 @@ use mathlib.Core.List.{List, [], _∷_}
 use lib.ListN.{length, getD, drop, set, length-set}
 use Rattle.model.specs.Modules.{Module, Task, Act, Call, place, copyTo}
 use Rattle.model.specs.Instructions.{Instr, nop, future, call, release, iff, jump, return, switch, Driver, updates, releases, terminates}
 use Rattle.timing.specs.SlotLaws.{Each}
 use Rattle.timing.specs.Rules.{Standing, idle, ready, running, done, Store, Outcome, well, Place, sensed, inputsOf, outputsOf, ended, terminations, begun}
 use Rattle.timing.specs.Accepted.{Accepted}
 use Rattle.timing.specs.Calls.{View, beginning, startMode, started}
 use Rattle.timing.specs.Code.{codeOf, beginsOf}
 use Rattle.timing.specs.Standings.{isOut, howMany, howManyOut, split, beginning-idle}
 use Rattle.timing.specs.Ticks.{nextTime, atNext}
 use Rattle.timing.specs.Lates.{endingNext}
 use Rattle.timing.specs.Released.{beginningThere, updatedAt, start-came}
 use Rattle.timing.specs.PortLaws.{mapped}
 use Rattle.timing.specs.Changes.{Ending, not-out, handed-over, ending}
 use Rattle.machine.specs.Instructions.{Res, ok, bad, Halt, Tally, noTally, counted}
-use Rattle.faithful.specs.Stands.{resOf, standOps, driven, driverAt, endingBy, begunBy}
-use Rattle.faithful.specs.Held.{Held, next-held, start-held}
-use Rattle.faithful.specs.Syncs.{at}
-use Rattle.faithful.specs.Reacts.{reacting, Agrees, reaction, beginning-run}
-use Rattle.faithful.specs.Histories.{Waiting}
-use Rattle.faithful.specs.Counts.{endedOut, one-changes, one-begins, FromRelease, out-counts, terms-count, releases-count, begun-known}
-use Rattle.faithful.specs.Tallies.{each-drop, Kept, run-keeps}
+use Rattle.timing.specs.Stands.{resOf, standOps, driven, driverAt, endingBy, begunBy}
+use Rattle.timing.specs.Held.{Held, next-held, start-held}
+use Rattle.timing.specs.Syncs.{at}
+use Rattle.timing.specs.Reacts.{reacting, Agrees, reaction, beginning-run}
+use Rattle.timing.specs.Histories.{Waiting}
+use Rattle.timing.specs.Counts.{endedOut, one-changes, one-begins, FromRelease, out-counts, terms-count, releases-count, begun-known}
+use Rattle.timing.specs.Tallies.{each-drop, Kept, run-keeps}
 
 -- Every task that is released is one of n.
 abbrev pub Within : ℕ → Instr → Type 0
