@@ -1,0 +1,65 @@
+-- The module of a text that no rule of 2 to 12 refuses is accepted: all that the timing rules and the code rest on.
+use Prim.Native.Nat.{ℕ, _+_, _*_, _≤_, _<_}
+use native.Mathlib.Omega.{arith}
+use mathlib.Core.Path.{_≡_, refl}
+use mathlib.Core.List.{List}
+use mathlib.Core.Option.{Option, none, some}
+use lib.ListN.{length, getD}
+use Rattle.model.specs.Modules.{Module, Mode, Act, Call}
+use Rattle.text.specs.Items.{syntaxOf}
+use Rattle.timing.specs.SlotLaws.{Each, Fits, each-zip}
+use Rattle.timing.specs.SlotFits.{divided-fits}
+use Rattle.timing.specs.InstantLaws.{Lasting}
+use Rattle.timing.specs.Rules.{noMode}
+use Rattle.timing.specs.Accepted.{ports, CallFits, ModeFits, Accepted}
+use Rattle.refusals.specs.declared.Verdict.the-variants.{Fine}
+use Rattle.refusals.specs.Names.{sensorSort, actuatorSort, taskSort, modeSort, inputSort, outputSort}
+use Rattle.refusals.specs.Texts.{verdictOf, moduleOf}
+use Rattle.accepted.specs.Folds.{allRows}
+use Rattle.accepted.specs.Lists.{each-map, each-at}
+use Rattle.accepted.specs.RowsRoom.{rows-room, port-sorts}
+use Rattle.accepted.specs.Tallies.{rows-tallied}
+use Rattle.accepted.specs.TaskPorts.{tasks-told, told-few}
+use Rattle.accepted.specs.Starts.{start-there}
+use Rattle.accepted.specs.GuardRoom.{guards-room}
+use Rattle.accepted.specs.GuardsFit.{guards-fit}
+use Rattle.accepted.specs.ModesFit.{CallOk, ModeOk, modes-ok}
+use Rattle.accepted.specs.Sources.{Fed, modes-fed}
+
+module _ (M : Module) where
+  call-fits : (period : ℕ) (call : Act Call) → CallOk M period call → Fed M call → CallFits M call
+  call-fits period call k f = record { guard = k .guard-in; task = k .task-in; sources = k .sources-in; as-many = f }
+
+  mode-fits : (mode : Mode) → ModeOk M mode → Each (Fed M) (mode .calls) → ModeFits M mode
+  mode-fits mode o f =
+      record {
+        lasting = record { lasts = o .lasts; calls-fit = each-map (CallOk M (mode .period)) (Fits (mode .period)) (λ c k. divided-fits (mode .period) c (k .whole)) (mode .calls) (o .calls-ok) };
+        period = o .short;
+        calls = each-zip (CallOk M (mode .period)) (Fed M) (CallFits M) (call-fits (mode .period)) (mode .calls) (o .calls-ok) f;
+        updates = o .updates-ok;
+        guarded = o .guards-ok;
+        distinct = o .distinct;
+        leads = o .leads;
+      }
+
+pub accepted : (s : List ℕ) → syntaxOf s ≡ none → verdictOf s ≡ Fine → Accepted (moduleOf s)
+accepted s e v =
+    let M = moduleOf s in
+    let fits = each-zip (ModeOk M) (λ m. Each (Fed M) (m .calls)) (ModeFits M) (mode-fits M) (M .modes) (modes-ok s e v) (modes-fed s e v) in
+    let room = rows-room s e v .room in
+    let tally = rows-tallied s e v in
+    let guards = guards-room s e v in
+    let modes = room modeSort in
+    let sum = port-sorts (allRows s) in
+    record {
+      modes = λ k l. each-at (ModeFits M) noMode (M .modes) k fits l;
+      start = start-there s e v;
+      guards = guards-fit s e v;
+      few-sensors = omega (arith, room sensorSort, tally .of-sensors);
+      few-actuators = omega (arith, room actuatorSort, tally .of-actuators);
+      few-tasks = omega (arith, room taskSort, tally .of-tasks);
+      few-modes = omega (arith, room modeSort, tally .of-modes);
+      few-guards = omega (arith, guards, modes, tally .of-modes);
+      few-ports = omega (arith, sum, tally .of-ports, room sensorSort, room actuatorSort, room inputSort, room outputSort);
+      few-outputs = told-few 0 (allRows s) (M .tasks) (tasks-told s e v);
+    }

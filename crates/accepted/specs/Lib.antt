@@ -1,0 +1,15 @@
+pub mod Steps
+pub mod Folds
+pub mod Lists
+pub mod RowsFit
+pub mod RowsRoom
+pub mod Tallies
+pub mod TaskPorts
+pub mod Starts
+pub mod Known
+pub mod GuardsFit
+pub mod GuardRoom
+pub mod Acts
+pub mod ModesFit
+pub mod Sources
+pub mod Accepts
