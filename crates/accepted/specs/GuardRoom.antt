@@ -28,6 +28,8 @@ use Rattle.refusals.specs.Ports.{portNamed}
 use Rattle.refusals.specs.Rules.{Env, grow, rules, envAfter}
 use Rattle.refusals.specs.Texts.{verdictOf, moduleOf}
 use Rattle.accepted.specs.Steps.{plain, guarded, Comes, module-begins, module-section, constant, sensor, actuator, task-begins, task-section, input, output, task-ends, mode-begins, mode-section, activity, guard-alone, guard, guard-arg, guard-last, invoke-alone, invoke, arg, arg-last, update, switch, mode-ends, module-ends, text-ends}
+use Rattle.timing.specs.SlotLaws.{Each}
+use Rattle.accepted.specs.Lists.{each-append}
 use Rattle.accepted.specs.Folds.{Reaches, whole, allRows, lastEnv}
 
 guard-one : (function : Option Function) (operands : List Operand) → length (guardOf function operands) ≤ 1
@@ -168,3 +170,49 @@ guards-room s e v =
     let w = whole s e v Rooming (λ q p at next item. rooming s (allRows s) (lastEnv s)) (omega arith, omega arith) in
     let h = w .holds .0 in
     omega (arith, h)
+
+-- ---- activities of each mode
+
+abbrev Busy : Mode → Type 0
+Busy mode = activitiesIn mode ≤ 32
+
+abbrev Working : State → ℕ → Env → Type 0
+Working q at env = Rooming q at env × Each Busy (env .draft .built .modes)
+
+module _ (s : List ℕ) (all : List Row) (last : Env) where
+  working : {q p : State} {at next : ℕ} {item : Item} (env : Env) → Comes s q at item p next → Rooming q at env → Each Busy (env .draft .built .modes) → Each Busy (grow s all env item .draft .built .modes)
+  working env (module-begins name) r h = h
+  working env (module-section k w l b) r h = h
+  working env (constant name value) r h = h
+  working env (sensor typ name getter) r h = h
+  working env (actuator typ name value setter) r h = h
+  working env (task-begins k name l) r h = h
+  working env (task-section k w l) r h = h
+  working env (input typ name) r h = h
+  working env (output typ name value) r h = h
+  working env (task-ends k name) r h = h
+  working env (mode-begins k start begin name digits milli l) r h = h
+  working env (mode-section k w l b) r h = h
+  working env (activity k begin digits l) r h = h
+  working env (guard-alone k name) r h = h
+  working env (guard k name many c) r h = h
+  working env (guard-arg k port c) r h = h
+  working env (guard-last k port c) r h = h
+  working env (invoke-alone name plain) r h = h
+  working env (invoke-alone name guarded) r h = h
+  working env (invoke name many plain c) r h = h
+  working env (invoke name many guarded c) r h = h
+  working env (arg port c) r h = h
+  working env (arg-last port c) r h = h
+  working env (update name source plain) r h = h
+  working env (update name source guarded) r h = h
+  working env (switch k name plain a b) r h = h
+  working env (switch k name guarded a b) r h = h
+  working env (mode-ends k) r h = each-append Busy (env .draft .built .modes) (env .draft .mode ∷ []) h (r .1, tt)
+  working env (module-ends k) r h = h
+  working env text-ends r h = h
+
+pub activities-room : (s : List ℕ) → syntaxOf s ≡ none → verdictOf s ≡ Fine → Each (λ m. activitiesIn m ≤ 32) (moduleOf s .modes)
+activities-room s e v =
+    let w = whole s e v Working (λ q p at next item env c f r h. (rooming s (allRows s) (lastEnv s) env c f r (h .0), working s (allRows s) (lastEnv s) env c (h .0) (h .1))) ((omega arith, omega arith), tt) in
+    w .holds .1

@@ -46,7 +46,7 @@ and-false : (a b : Bool) → a ≡ true → (a && b) ≡ false → b ≡ false
 and-false true b e h = h
 and-false false b e h = let z : _≡_ {A = ℕ} 0 1 = cc in absurd (omega arith)
 
-guard-number : (number : ℕ) (name : Name) (arguments : ℕ) → first (guardRules number name arguments) ≡ Fine → (ltb number functionsGiven ≡ true) × (operandsOf (functionBy number) ≡ arguments)
+pub guard-number : (number : ℕ) (name : Name) (arguments : ℕ) → first (guardRules number name arguments) ≡ Fine → (ltb number functionsGiven ≡ true) × (operandsOf (functionBy number) ≡ arguments)
 unfolding guardRules
 guard-number number name arguments v =
     let w = fine-one _ _ (fine-one _ _ v .1) in
@@ -59,7 +59,7 @@ types-length IsFalse = refl
 types-length Less = refl
 types-length Equal = refl
 
-wanted-length : (number : ℕ) (name : Name) (arguments : ℕ) → first (guardRules number name arguments) ≡ Fine → length (guardTypes number arguments) ≡ arguments
+pub wanted-length : (number : ℕ) (name : Name) (arguments : ℕ) → first (guardRules number name arguments) ≡ Fine → length (guardTypes number arguments) ≡ arguments
 wanted-length number name arguments v =
     let (k, e) = guard-number number name arguments v in
     let q : (ltb number functionsGiven && eqb (operandsOf (functionBy number)) arguments) ≡ true = rw (k, eq-eqb _ _ e) in

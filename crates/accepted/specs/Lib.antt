@@ -13,3 +13,10 @@ pub mod Acts
 pub mod ModesFit
 pub mod Sources
 pub mod Accepts
+pub mod Kinds
+pub mod PortOrder
+pub mod CodeFits
+pub mod TypesFit
+pub mod Meanings
+pub mod Takes
+pub mod GuardTypes

@@ -116,7 +116,7 @@ pub use-known : (wanted : ℕ) (row : Row) (name : Name) → first (useRules wan
 unfolding useRules
 use-known wanted row name v = fine-one _ _ (fine-one _ _ v .1) .0
 
-value-word : (s : List ℕ) (rows whole : List Row) (wanted : ℕ) (value : Literal) → Each (RowFits whole) rows → first (valueRules s rows wanted value) ≡ Fine → literalWord s rows value < 4294967296
+pub value-word : (s : List ℕ) (rows whole : List Row) (wanted : ℕ) (value : Literal) → Each (RowFits whole) rows → first (valueRules s rows wanted value) ≡ Fine → literalWord s rows value < 4294967296
 unfolding valueRules
 value-word s rows whole wanted (Truth at true) h v = omega arith
 value-word s rows whole wanted (Truth at false) h v = omega arith

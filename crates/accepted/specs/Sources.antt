@@ -74,10 +74,10 @@ module _ (s : List ℕ) (all : List Row) where
       let (b, d) = items-tasks (grow s all env item) items in
       (a ++ b, d ∙ ap (λ (l : List Task). l ++ b) e ∙ append-assoc (tasksOf (env .draft)) a b)
 
-tasks-first : {s : List ℕ} {all : List Row} {last : Env} (env : Env) → Reaches s all last env → (more : List Task) × (last .draft .built .tasks ≡ env .draft .built .tasks ++ more)
+pub tasks-first : {s : List ℕ} {all : List Row} {last : Env} (env : Env) → Reaches s all last env → (more : List Task) × (last .draft .built .tasks ≡ env .draft .built .tasks ++ more)
 tasks-first {s} {all} {last} env r = let (more, e) = items-tasks s all env (r .items) in (more, ap (λ (known : Env). known .draft .built .tasks) (sym (r .to)) ∙ e)
 
-first-same : (tasks more : List Task) (k : ℕ) → k < length tasks → getD (tasks ++ more) k noTask ≡ getD tasks k noTask
+pub first-same : (tasks more : List Task) (k : ℕ) → k < length tasks → getD (tasks ++ more) k noTask ≡ getD tasks k noTask
 first-same [] more k l = absurd (omega arith)
 first-same (task ∷ tasks) more zero l = refl
 first-same (task ∷ tasks) more (suc k) l = first-same tasks more k (omega arith)

@@ -1,9 +1,9 @@
 -- A start mode: one that was seen is under way or among the modes.
 use Prim.Native.Nat.{ℕ, suc, _+_, _<_}
 use native.Mathlib.Omega.{arith}
-use mathlib.Core.Path.{_≡_, refl, ap}
+use mathlib.Core.Path.{_≡_, refl, ap, _∙_}
 use mathlib.Core.List.{List, [], _∷_, _++_}
-use mathlib.Core.Bool.{Bool, true, false, cond, _||_}
+use mathlib.Core.Bool.{Bool, true, false, cond, _||_, _&&_}
 use mathlib.Core.Logic.{_⊎_, inl, inr, ⊎-elim}
 use mathlib.Core.Option.{Option, none, some}
 use borrow.Author.Tests.{not-false}
@@ -18,8 +18,8 @@ use Rattle.timing.specs.Calls.{startFrom, startMode}
 use Rattle.refusals.specs.declared.Row.{Row}
 use Rattle.refusals.specs.declared.Verdict.the-variants.{Fine}
 use Rattle.refusals.specs.Checks.{first}
-use Rattle.refusals.specs.ChecksLaws.{fine-one}
-use Rattle.refusals.specs.Activities.{endRules}
+use Rattle.refusals.specs.ChecksLaws.{fine-one, fine-parts}
+use Rattle.refusals.specs.Activities.{startRules, endRules}
 use Rattle.refusals.specs.Draft.{Draft}
 use Rattle.refusals.specs.Rules.{Env, grow, rules}
 use Rattle.refusals.specs.Texts.{verdictOf, moduleOf}
@@ -100,3 +100,78 @@ start-there s e v =
     let w = whole s e v Starting (λ q p at next item. starting s (allRows s) (lastEnv s)) (λ z. let y : _≡_ {A = ℕ} 0 1 = cc in absurd (omega arith)) in
     let d = end-started (w .before .draft .started) (length s) (w .end-fine) in
     w .holds (rw (w .same-draft) at d)
+
+-- ---- exactly one
+
+abbrev bit : Bool → ℕ
+bit true = 1
+bit false = 0
+
+abbrev pub startsIn : List Mode → ℕ
+startsIn [] = 0
+startsIn (mode ∷ modes) = cond (mode .start) 1 0 + startsIn modes
+
+starts-append : (modes : List Mode) (mode : Mode) → startsIn (modes ++ (mode ∷ [])) ≡ startsIn modes + cond (mode .start) 1 0
+starts-append [] mode = omega arith
+starts-append (other ∷ modes) mode = let e = starts-append modes mode in omega (arith, e)
+
+abbrev Once : State → ℕ → Env → Type 0
+Once Q.Begin at env = startsIn (env .draft .built .modes) ≡ bit (env .draft .started)
+Once (Q.Module k) at env = startsIn (env .draft .built .modes) ≡ bit (env .draft .started)
+Once (Q.Task k) at env = startsIn (env .draft .built .modes) ≡ bit (env .draft .started)
+Once (Q.Mode k) at env = startsIn (env .draft .built .modes) + cond (env .draft .mode .start) 1 0 ≡ bit (env .draft .started)
+Once (Q.Act k) at env = startsIn (env .draft .built .modes) + cond (env .draft .mode .start) 1 0 ≡ bit (env .draft .started)
+Once (Q.Guarded k) at env = startsIn (env .draft .built .modes) + cond (env .draft .mode .start) 1 0 ≡ bit (env .draft .started)
+Once (Q.GuardArgs k) at env = startsIn (env .draft .built .modes) + cond (env .draft .mode .start) 1 0 ≡ bit (env .draft .started)
+Once Q.Args at env = startsIn (env .draft .built .modes) + cond (env .draft .mode .start) 1 0 ≡ bit (env .draft .started)
+Once Q.Finish at env = startsIn (env .draft .built .modes) ≡ bit (env .draft .started)
+
+not-twice : (n : ℕ) (started start : Bool) → (start && started) ≡ false → n ≡ bit started → n + cond start 1 0 ≡ bit (started || start)
+not-twice n true true e h = let z : _≡_ {A = ℕ} 0 1 = cc in absurd (omega arith)
+not-twice n true false e h = omega arith
+not-twice n false true e h = omega arith
+not-twice n false false e h = omega arith
+
+start-fine : (started start : Bool) (at : ℕ) → first (startRules started start at) ≡ Fine → (start && started) ≡ false
+unfolding startRules
+start-fine started start at v = fine-one _ _ v .0
+
+module _ (s : List ℕ) (all : List Row) (last : Env) where
+  once : {q p : State} {at next : ℕ} {item : Item} (env : Env) → Comes s q at item p next → first (rules s all env item) ≡ Fine → Reaches s all last (grow s all env item) → Once q at env → Once p next (grow s all env item)
+  once env (module-begins name) v r h = h
+  once env (module-section k w l b) v r h = h
+  once env (constant name value) v r h = h
+  once env (sensor typ name getter) v r h = h
+  once env (actuator typ name value setter) v r h = h
+  once env (task-begins k name l) v r h = h
+  once env (task-section k w l) v r h = h
+  once env (input typ name) v r h = h
+  once env (output typ name value) v r h = h
+  once env (task-ends k name) v r h = h
+  once env (mode-begins k start begin name digits milli l) v r h = not-twice (startsIn (env .draft .built .modes)) (env .draft .started) start (start-fine (env .draft .started) start begin (fine-parts (startRules (env .draft .started) start begin) _ v .0)) h
+  once env (mode-section k w l b) v r h = h
+  once env (activity k begin digits l) v r h = h
+  once env (guard-alone k name) v r h = h
+  once env (guard k name many c) v r h = h
+  once env (guard-arg k port c) v r h = h
+  once env (guard-last k port c) v r h = h
+  once env (invoke-alone name plain) v r h = h
+  once env (invoke-alone name guarded) v r h = h
+  once env (invoke name many plain c) v r h = h
+  once env (invoke name many guarded c) v r h = h
+  once env (arg port c) v r h = h
+  once env (arg-last port c) v r h = h
+  once env (update name source plain) v r h = h
+  once env (update name source guarded) v r h = h
+  once env (switch k name plain a b) v r h = h
+  once env (switch k name guarded a b) v r h = h
+  once env (mode-ends k) v r h = starts-append (env .draft .built .modes) (env .draft .mode) ∙ h
+  once env (module-ends k) v r h = h
+  once env text-ends v r h = h
+
+pub start-once : (s : List ℕ) → syntaxOf s ≡ none → verdictOf s ≡ Fine → startsIn (moduleOf s .modes) ≡ 1
+start-once s e v =
+    let w = whole s e v Once (λ q p at next item. once s (allRows s) (lastEnv s)) refl in
+    let d = end-started (w .before .draft .started) (length s) (w .end-fine) in
+    let f = rw (w .same-draft) at d in
+    w .holds ∙ rw f

@@ -18,7 +18,8 @@ use Rattle.refusals.specs.declared.Row.{Row}
 use Rattle.refusals.specs.declared.Verdict.the-variants.{Fine}
 use Rattle.refusals.specs.Checks.{first}
 use Rattle.refusals.specs.ChecksLaws.{fine-parts}
-use Rattle.refusals.specs.Names.{letters, taskSort, inputSort, outputSort, count, isSort, isPortOf, rowOf}
+use Rattle.refusals.specs.Names.{letters, taskSort, inputSort, outputSort, count, types, isSort, isPortOf, rowOf}
+use Rattle.refusals.specs.NamesLaws.{types-append, types-count}
 use Rattle.refusals.specs.Values.{typeNamed, typeRules, literalWord}
 use Rattle.refusals.specs.Declarations.{tasksIn, portsIn, lastScope}
 use Rattle.refusals.specs.Draft.{withFunction}
@@ -33,19 +34,32 @@ use Rattle.accepted.specs.Tallies.{Tallying, tallying, nothing-yet}
 -- the ports of tasks from task n on
 abbrev pub Told : ℕ → List Row → List Task → Type 0
 Told n rows [] = Unit {0}
-Told n rows (task ∷ tasks) = (length (task .inputs) ≡ count (isPortOf (n + 1) inputSort) rows) × (length (task .outputs) ≤ 8) × Told (n + 1) rows tasks
+Told n rows (task ∷ tasks) = (task .inputs ≡ types (isPortOf (n + 1) inputSort) rows) × (length (task .inputs) ≤ 8) × (length (task .outputs) ≤ 8) × Told (n + 1) rows tasks
+
+module _ (test : Row → Bool) (rows : List Row) (row : Row) where
+  types-next : test row ≡ true → types test (rows ++ (row ∷ [])) ≡ types test rows ++ (row .typ ∷ [])
+  unfolding types
+  types-next e = types-append test rows (row ∷ []) ∙ ap (λ (l : List ℕ). types test rows ++ l) (rw e)
+
+  types-same : test row ≡ false → types test (rows ++ (row ∷ [])) ≡ types test rows
+  unfolding types
+  types-same e = types-append test rows (row ∷ []) ∙ ap (λ (l : List ℕ). types test rows ++ l) (rw e) ∙ append-nil (types test rows)
+
+empty : (l : List ℕ) → length l ≡ 0 → [] ≡ l
+empty [] e = refl
+empty (x ∷ l) e = absurd (omega arith)
 
 told-more : (rows : List Row) (row : Row) (n : ℕ) (tasks : List Task) → Told n rows tasks → ((k : ℕ) → n < k → k ≤ n + length tasks → row .scope ≡ k → ⊥) → Told n (rows ++ (row ∷ [])) tasks
 told-more rows row n [] h far = tt
 told-more rows row n (task ∷ tasks) h far =
     let other : isPortOf (n + 1) inputSort row ≡ false = rw (ne-eqb (row .scope) (n + 1) (far (n + 1) (omega arith) (omega arith))) in
-    (h .0 ∙ sym (count-same (isPortOf (n + 1) inputSort) rows row other), h .1, told-more rows row (n + 1) tasks (h .2) (λ k a b e. far k (omega arith) (omega arith) e))
+    (h .0 ∙ sym (types-same (isPortOf (n + 1) inputSort) rows row other), h .1, h .2, told-more rows row (n + 1) tasks (h .3) (λ k a b e. far k (omega arith) (omega arith) e))
 
-told-append : (rows : List Row) (task : Task) (n : ℕ) (tasks : List Task) → Told n rows tasks → length (task .inputs) ≡ count (isPortOf (n + length tasks + 1) inputSort) rows → length (task .outputs) ≤ 8 → Told n rows (tasks ++ (task ∷ []))
-told-append rows task n [] h e l = let z : n + 0 + 1 ≡ n + 1 = omega arith in (rw z at e, l, tt)
-told-append rows task n (other ∷ tasks) h e l =
+told-append : (rows : List Row) (task : Task) (n : ℕ) (tasks : List Task) → Told n rows tasks → task .inputs ≡ types (isPortOf (n + length tasks + 1) inputSort) rows → length (task .inputs) ≤ 8 → length (task .outputs) ≤ 8 → Told n rows (tasks ++ (task ∷ []))
+told-append rows task n [] h e i l = let z : n + 0 + 1 ≡ n + 1 = omega arith in (rw z at e, i, l, tt)
+told-append rows task n (other ∷ tasks) h e i l =
     let z : n + length (other ∷ tasks) + 1 ≡ n + 1 + length tasks + 1 = omega arith in
-    (h .0, h .1, told-append rows task (n + 1) tasks (h .2) (rw z at e) l)
+    (h .0, h .1, h .2, told-append rows task (n + 1) tasks (h .3) (rw z at e) i l)
 
 -- no row is of a later scope
 scope-none : (rows : List Row) (whole : List Row) (scope sort : ℕ) → Each (RowFits whole) rows → tasksIn whole < scope → count (isPortOf scope sort) rows ≡ 0
@@ -57,7 +71,8 @@ scope-none (row ∷ rows) whole scope sort h l =
 
 -- the ports of the task under way
 pub record Under (rows : List Row) (task : Task) : Type 0 where
-  pub inputs-are : length (task .inputs) ≡ count (isPortOf (tasksIn rows) inputSort) rows
+  pub inputs-are : task .inputs ≡ types (isPortOf (tasksIn rows) inputSort) rows
+  pub few-inputs : length (task .inputs) ≤ 8
   pub outputs-are : length (task .outputs) ≡ count (isPortOf (tasksIn rows) outputSort) rows
   pub few : length (task .outputs) ≤ 8
 
@@ -93,11 +108,11 @@ module _ (rows : List Row) (row : Row) (z : row .scope ≡ tasksIn rows) where
   same-scope : row .sort ≡ inputSort → tasksIn (rows ++ (row ∷ [])) ≡ tasksIn rows
   same-scope e = count-same (isSort taskSort) rows row (rw e)
 
-  input-counts : row .sort ≡ inputSort → (count (isPortOf (tasksIn rows) inputSort) (rows ++ (row ∷ [])) ≡ count (isPortOf (tasksIn rows) inputSort) rows + 1) × (count (isPortOf (tasksIn rows) outputSort) (rows ++ (row ∷ [])) ≡ count (isPortOf (tasksIn rows) outputSort) rows)
-  input-counts e = (count-next (isPortOf (tasksIn rows) inputSort) rows row (rw (eq-eqb (row .scope) (tasksIn rows) z, e)), count-same (isPortOf (tasksIn rows) outputSort) rows row (rw (eq-eqb (row .scope) (tasksIn rows) z, e)))
+  input-counts : row .sort ≡ inputSort → (types (isPortOf (tasksIn rows) inputSort) (rows ++ (row ∷ [])) ≡ types (isPortOf (tasksIn rows) inputSort) rows ++ (row .typ ∷ [])) × (count (isPortOf (tasksIn rows) outputSort) (rows ++ (row ∷ [])) ≡ count (isPortOf (tasksIn rows) outputSort) rows)
+  input-counts e = (types-next (isPortOf (tasksIn rows) inputSort) rows row (rw (eq-eqb (row .scope) (tasksIn rows) z, e)), count-same (isPortOf (tasksIn rows) outputSort) rows row (rw (eq-eqb (row .scope) (tasksIn rows) z, e)))
 
-  output-counts : row .sort ≡ outputSort → (count (isPortOf (tasksIn rows) inputSort) (rows ++ (row ∷ [])) ≡ count (isPortOf (tasksIn rows) inputSort) rows) × (count (isPortOf (tasksIn rows) outputSort) (rows ++ (row ∷ [])) ≡ count (isPortOf (tasksIn rows) outputSort) rows + 1)
-  output-counts e = (count-same (isPortOf (tasksIn rows) inputSort) rows row (rw (eq-eqb (row .scope) (tasksIn rows) z, e)), count-next (isPortOf (tasksIn rows) outputSort) rows row (rw (eq-eqb (row .scope) (tasksIn rows) z, e)))
+  output-counts : row .sort ≡ outputSort → (types (isPortOf (tasksIn rows) inputSort) (rows ++ (row ∷ [])) ≡ types (isPortOf (tasksIn rows) inputSort) rows) × (count (isPortOf (tasksIn rows) outputSort) (rows ++ (row ∷ [])) ≡ count (isPortOf (tasksIn rows) outputSort) rows + 1)
+  output-counts e = (types-same (isPortOf (tasksIn rows) inputSort) rows row (rw (eq-eqb (row .scope) (tasksIn rows) z, e)), count-next (isPortOf (tasksIn rows) outputSort) rows row (rw (eq-eqb (row .scope) (tasksIn rows) z, e)))
 
   tasks-still : (row .sort ≡ inputSort → ⊥) → row .sort ≡ outputSort → tasksIn (rows ++ (row ∷ [])) ≡ tasksIn rows
   tasks-still n e = count-same (isSort taskSort) rows row (rw e)
@@ -106,7 +121,7 @@ under-begins : (rows : List Row) (row : Row) (name : List ℕ) → Each (RowFits
 under-begins rows row name h z e =
     let t = count-next (isSort taskSort) rows row (rw e) in
     let none-of : (sort : ℕ) → 0 ≡ count (isPortOf (tasksIn (rows ++ (row ∷ []))) sort) (rows ++ (row ∷ [])) = λ sort. rw t (sym (count-same (isPortOf (tasksIn rows + 1) sort) rows row (rw (ne-eqb (row .scope) (tasksIn rows + 1) (λ q. omega (arith, z, q)))) ∙ scope-none rows rows (tasksIn rows + 1) sort h (omega arith))) in
-    record { inputs-are = none-of inputSort; outputs-are = none-of outputSort; few = omega arith }
+    record { inputs-are = empty _ (types-count _ _ ∙ sym (none-of inputSort)); few-inputs = omega arith; outputs-are = none-of outputSort; few = omega arith }
 
 module _ (s : List ℕ) (all : List Row) (last : Env) where
   ported : {q p : State} {at next : ℕ} {item : Item} (env : Env) → Comes s q at item p next → first (rules s all env item) ≡ Fine → Fitting q at env → Tallying q at env → Ported q at env → Ported p next (grow s all env item)
@@ -122,18 +137,20 @@ module _ (s : List ℕ) (all : List Row) (last : Env) where
       let t = same-scope (env .rows) row refl refl in
       let c = input-counts (env .rows) row refl refl in
       let n = length-append (env .draft .task .inputs) (typeNamed s typ ∷ []) in
-      (told-port (env .rows) row (env .draft .built .tasks) refl (g .of-tasks) (h .0), record { inputs-are = rw t (omega (arith, n, c .0, h .1 .inputs-are)); outputs-are = rw t (omega (arith, c .1, h .1 .outputs-are)); few = h .1 .few })
+      let m = port-room s (env .rows) inputSort name (fine-parts (typeRules s typ) _ v .1) .0 in
+      let i : length (env .draft .task .inputs) ≡ count (isPortOf (tasksIn (env .rows)) inputSort) (env .rows) = ap (λ (l : List ℕ). length l) (h .1 .inputs-are) ∙ types-count _ (env .rows) in
+      (told-port (env .rows) row (env .draft .built .tasks) refl (g .of-tasks) (h .0), record { inputs-are = rw t (ap (λ (l : List ℕ). l ++ (typeNamed s typ ∷ [])) (h .1 .inputs-are) ∙ sym (c .0)); few-inputs = omega (arith, n, i, m); outputs-are = rw t (omega (arith, c .1, h .1 .outputs-are)); few = h .1 .few })
   ported env (output typ name value) v f g h =
       let row = rowOf name (lastScope (env .rows)) outputSort (typeNamed s typ) (portsIn (env .rows)) in
       let t = tasks-still (env .rows) row refl (λ e. omega (arith, e)) refl in
       let c = output-counts (env .rows) row refl refl in
       let n = length-append (env .draft .task .outputs) (record { name = letters s name; type = typeNamed s typ; start = literalWord s (env .rows) value } ∷ []) in
       let m = port-room s (env .rows) outputSort name (fine-parts _ _ (fine-parts (typeRules s typ) _ v .1) .0) .0 in
-      (told-port (env .rows) row (env .draft .built .tasks) refl (g .of-tasks) (h .0), record { inputs-are = rw t (omega (arith, c .0, h .1 .inputs-are)); outputs-are = rw t (omega (arith, n, c .1, h .1 .outputs-are)); few = omega (arith, n, m, h .1 .outputs-are) })
+      (told-port (env .rows) row (env .draft .built .tasks) refl (g .of-tasks) (h .0), record { inputs-are = rw t (h .1 .inputs-are ∙ sym (c .0)); few-inputs = h .1 .few-inputs; outputs-are = rw t (omega (arith, n, c .1, h .1 .outputs-are)); few = omega (arith, n, m, h .1 .outputs-are) })
   ported env (task-ends k name) v f g h =
       let t = g .of-tasks in
       let e : tasksIn (env .rows) ≡ 0 + length (env .draft .built .tasks) + 1 = omega (arith, t) in
-      (told-same (env .rows) (env .draft .built .tasks ++ (withFunction (env .draft .task) (letters s name) ∷ [])) (told-append (env .rows) (withFunction (env .draft .task) (letters s name)) 0 (env .draft .built .tasks) (h .0) (rw e at (h .1 .inputs-are)) (h .1 .few)), tt)
+      (told-same (env .rows) (env .draft .built .tasks ++ (withFunction (env .draft .task) (letters s name) ∷ [])) (told-append (env .rows) (withFunction (env .draft .task) (letters s name)) 0 (env .draft .built .tasks) (h .0) (rw e at (h .1 .inputs-are)) (h .1 .few-inputs) (h .1 .few)), tt)
   ported env (mode-begins k start begin name digits milli l) v f g h = (told-plain (env .rows) _ (env .draft .built .tasks) refl (h .0), tt)
   ported env (mode-section k w l b) v f g h = (told-same (env .rows) (env .draft .built .tasks) (h .0), tt)
   ported env (activity k begin digits l) v f g h = (told-same (env .rows) (env .draft .built .tasks) (h .0), tt)
@@ -166,9 +183,16 @@ tasks-told s e v =
 
 pub told-few : (n : ℕ) (rows : List Row) (tasks : List Task) → Told n rows tasks → Each (λ t. length (t .outputs) ≤ 8) tasks
 told-few n rows [] h = tt
-told-few n rows (task ∷ tasks) h = (h .1, told-few (n + 1) rows tasks (h .2))
+told-few n rows (task ∷ tasks) h = (h .2, told-few (n + 1) rows tasks (h .3))
+
+pub told-few-inputs : (n : ℕ) (rows : List Row) (tasks : List Task) → Told n rows tasks → Each (λ t. length (t .inputs) ≤ 8) tasks
+told-few-inputs n rows [] h = tt
+told-few-inputs n rows (task ∷ tasks) h = (h .1, told-few-inputs (n + 1) rows tasks (h .3))
+
+pub told-types : (n : ℕ) (rows : List Row) (tasks : List Task) (k : ℕ) → Told n rows tasks → k < length tasks → getD tasks k noTask .inputs ≡ types (isPortOf (n + k + 1) inputSort) rows
+told-types n rows [] k h l = absurd (omega arith)
+told-types n rows (task ∷ tasks) zero h l = let z : n + 0 + 1 ≡ n + 1 = omega arith in rw z (h .0)
+told-types n rows (task ∷ tasks) (suc k) h l = let z : n + suc k + 1 ≡ n + 1 + k + 1 = omega arith in rw z (told-types (n + 1) rows tasks k (h .3) (omega arith))
 
 pub told-inputs : (n : ℕ) (rows : List Row) (tasks : List Task) (k : ℕ) → Told n rows tasks → k < length tasks → length (getD tasks k noTask .inputs) ≡ count (isPortOf (n + k + 1) inputSort) rows
-told-inputs n rows [] k h l = absurd (omega arith)
-told-inputs n rows (task ∷ tasks) zero h l = let z : n + 0 + 1 ≡ n + 1 = omega arith in rw z (h .0)
-told-inputs n rows (task ∷ tasks) (suc k) h l = let z : n + suc k + 1 ≡ n + 1 + k + 1 = omega arith in rw z (told-inputs (n + 1) rows tasks k (h .2) (omega arith))
+told-inputs n rows tasks k h l = ap (λ (list : List ℕ). length list) (told-types n rows tasks k h l) ∙ types-count _ rows

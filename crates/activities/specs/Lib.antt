@@ -1,0 +1,3 @@
+pub mod Kept
+pub mod Operands
+pub mod KeptLaws

@@ -1,0 +1,78 @@
+// Ports and arguments as they are written: 4, 6 and 7.
+ghost use mathlib.Core.Path.{_≡_};
+ghost use Rattle.refusals.specs.Checks.{first};
+ghost use Rattle.refusals.specs.Ports.{dottedRules, placeRules, portRules, argumentRules};
+ghost use Rattle.names.specs.Tables.{rowsIn};
+use refusals::Row;
+use refusals::Verdict;
+use text::Port;
+
+// Task "." output, for something of a type.
+fn dotted_rules(wanted: usize, task: Row, output: Row, port: Port) -> Verdict
+    ensures { λ r. ⌜ r ≡ first (dottedRules wanted task output port) ⌝ }
+{
+    let first = port.first;
+    let second = port.second;
+    if super::too_long(first) {
+        return Verdict::No {
+            number: 4,
+            at: first.start,
+        };
+    }
+    if task.sort == 7 {
+        return Verdict::No {
+            number: 6,
+            at: first.start,
+        };
+    }
+    if super::clash(wanted, output.typ) {
+        return Verdict::No {
+            number: 7,
+            at: first.start,
+        };
+    }
+    if super::too_long(second) {
+        return Verdict::No {
+            number: 4,
+            at: second.start,
+        };
+    }
+    if 7 <= task.sort {
+        return Verdict::Fine;
+    }
+    if output.sort == 7 {
+        return Verdict::No {
+            number: 6,
+            at: second.start,
+        };
+    }
+    Verdict::Fine
+}
+
+// A port or an argument that means this row, where a type is wanted.
+fn place_rules(s: &[u8], cells: &[usize], n: usize, wanted: usize, row: Row, port: Port) -> Verdict
+    ensures { λ r. ⌜ r ≡ first (placeRules (now (s .entry)) (rowsIn (now (cells .entry)) n) wanted row port) ⌝ }
+{
+    let first = port.first;
+    if port.dotted {
+        let task = meanings::task_named(s, cells, n, first);
+        return dotted_rules(wanted, task, row, port);
+    }
+    super::use_rules(wanted, row, first)
+}
+
+// A port, where a type is wanted.
+pub fn port_rules(s: &[u8], cells: &[usize], n: usize, wanted: usize, port: Port) -> Verdict
+    ensures { λ r. ⌜ r ≡ first (portRules (now (s .entry)) (rowsIn (now (cells .entry)) n) wanted port) ⌝ }
+{
+    let row = meanings::port_named(s, cells, n, port);
+    place_rules(s, cells, n, wanted, row, port)
+}
+
+// A guard's argument, where a type is wanted.
+pub fn argument_rules(s: &[u8], cells: &[usize], n: usize, wanted: usize, port: Port) -> Verdict
+    ensures { λ r. ⌜ r ≡ first (argumentRules (now (s .entry)) (rowsIn (now (cells .entry)) n) wanted port) ⌝ }
+{
+    let row = meanings::argument_named(s, cells, n, port);
+    place_rules(s, cells, n, wanted, row, port)
+}
