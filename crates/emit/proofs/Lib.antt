@@ -1,0 +1,7 @@
+pub mod Divided
+pub mod Arms
+pub mod Emission
+pub mod Going
+pub mod Blocks
+pub mod Instants
+pub mod Modes
