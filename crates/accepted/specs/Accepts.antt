@@ -1,17 +1,15 @@
 -- The module of a text that no rule of 2 to 12 refuses is accepted: all that the timing rules and the code rest on.
-use Prim.Native.Nat.{ℕ, _+_, _*_, _≤_, _<_}
+use Prim.Native.Nat.{ℕ}
 use native.Mathlib.Omega.{arith}
-use mathlib.Core.Path.{_≡_, refl}
+use mathlib.Core.Path.{_≡_}
 use mathlib.Core.List.{List}
-use mathlib.Core.Option.{Option, none, some}
-use lib.ListN.{length, getD}
+use mathlib.Core.Option.{none}
 use Rattle.model.specs.Modules.{Module, Mode, Act, Call}
 use Rattle.text.specs.Items.{syntaxOf}
-use Rattle.timing.specs.SlotLaws.{Each, Fits, each-zip}
+use Rattle.timing.specs.SlotLaws.{Fits, each-zip}
 use Rattle.timing.specs.SlotFits.{divided-fits}
-use Rattle.timing.specs.InstantLaws.{Lasting}
 use Rattle.timing.specs.Rules.{noMode}
-use Rattle.timing.specs.Accepted.{ports, CallFits, ModeFits, Accepted}
+use Rattle.timing.specs.Accepted.{CallFits, ModeFits, Accepted}
 use Rattle.refusals.specs.declared.Verdict.the-variants.{Fine}
 use Rattle.refusals.specs.Names.{sensorSort, actuatorSort, taskSort, modeSort, inputSort, outputSort}
 use Rattle.refusals.specs.Texts.{verdictOf, moduleOf}
@@ -24,18 +22,19 @@ use Rattle.accepted.specs.Starts.{start-there}
 use Rattle.accepted.specs.GuardRoom.{guards-room}
 use Rattle.accepted.specs.GuardsFit.{guards-fit}
 use Rattle.accepted.specs.ModesFit.{CallOk, ModeOk, modes-ok}
-use Rattle.accepted.specs.Sources.{Fed, modes-fed}
+use Rattle.accepted.specs.Meanings.{rolesOf, typesOf}
+use Rattle.accepted.specs.Takes.{Taken, Drives, modes-drive, takes-length}
 
 module _ (M : Module) where
-  call-fits : (period : ℕ) (call : Act Call) → CallOk M period call → Fed M call → CallFits M call
-  call-fits period call k f = record { guard = k .guard-in; task = k .task-in; sources = k .sources-in; as-many = f }
+  call-fits : (period : ℕ) (call : Act Call) → CallOk M period call → Taken M call → CallFits M call
+  call-fits period call k f = record { guard = k .guard-in; task = k .task-in; sources = k .sources-in; as-many = takes-length (rolesOf M) (typesOf M) _ (call .what .sources) f }
 
-  mode-fits : (mode : Mode) → ModeOk M mode → Each (Fed M) (mode .calls) → ModeFits M mode
+  mode-fits : (mode : Mode) → ModeOk M mode → Drives M mode → ModeFits M mode
   mode-fits mode o f =
       record {
         lasting = record { lasts = o .lasts; calls-fit = each-map (CallOk M (mode .period)) (Fits (mode .period)) (λ c k. divided-fits (mode .period) c (k .whole)) (mode .calls) (o .calls-ok) };
         period = o .short;
-        calls = each-zip (CallOk M (mode .period)) (Fed M) (CallFits M) (call-fits (mode .period)) (mode .calls) (o .calls-ok) f;
+        calls = each-zip (CallOk M (mode .period)) (Taken M) (CallFits M) (call-fits (mode .period)) (mode .calls) (o .calls-ok) (f .taken);
         updates = o .updates-ok;
         guarded = o .guards-ok;
         distinct = o .distinct;
@@ -45,7 +44,7 @@ module _ (M : Module) where
 pub accepted : (s : List ℕ) → syntaxOf s ≡ none → verdictOf s ≡ Fine → Accepted (moduleOf s)
 accepted s e v =
     let M = moduleOf s in
-    let fits = each-zip (ModeOk M) (λ m. Each (Fed M) (m .calls)) (ModeFits M) (mode-fits M) (M .modes) (modes-ok s e v) (modes-fed s e v) in
+    let fits = each-zip (ModeOk M) (Drives M) (ModeFits M) (mode-fits M) (M .modes) (modes-ok s e v) (modes-drive s e v) in
     let room = rows-room s e v .room in
     let tally = rows-tallied s e v in
     let guards = guards-room s e v in

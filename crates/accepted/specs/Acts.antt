@@ -1,10 +1,10 @@
 -- Activities: what the rules say of a head, of tasks invoked once, and of a switch's frequency.
 use Prim.Native.Nat.{ℕ, _+_, _%_, _≤_, _<_}
 use native.Mathlib.Omega.{arith}
-use mathlib.Core.Path.{_≡_, refl, sym}
+use mathlib.Core.Path.{_≡_, refl}
 use mathlib.Core.Logic.{_≢_}
 use mathlib.Core.List.{List, [], _∷_, _++_, map}
-use mathlib.Core.Bool.{Bool, true, false, cond, _&&_, _||_, not}
+use mathlib.Core.Bool.{Bool, true, false, cond, not}
 use mathlib.Core.Option.{Option, none, some}
 use borrow.Author.Tests.{eqb-true, eqb-false, ltb-false, not-false}
 use lib.Dec.{eqb, ltb}
@@ -15,18 +15,15 @@ use Rattle.model.specs.declared.Function.{Function}
 use Rattle.model.specs.declared.Operand.{Operand}
 use Rattle.text.specs.declared.Name.{Name}
 use Rattle.timing.specs.SlotLaws.{Each, or-false}
+use Rattle.accepted.specs.Lists.{and-false}
 use Rattle.timing.specs.SlotFits.{Divides}
 use Rattle.timing.specs.Accepted.{Absent, Distinct}
 use Rattle.refusals.specs.declared.Verdict.the-variants.{Fine}
 use Rattle.refusals.specs.Checks.{first}
 use Rattle.refusals.specs.ChecksLaws.{fine-one}
 use Rattle.refusals.specs.Refusals.{beyond, divides, dividesAll, among}
-use Rattle.refusals.specs.Activities.{periodAt, periodRules, switchKind, frequenciesIn, invokedIn, headRules}
+use Rattle.refusals.specs.Activities.{periodAt, periodRules, switchKind, frequenciesIn, headRules}
 use Rattle.refusals.specs.Draft.{guardOf, guardNumber, sourced, lastSourced}
-
-pub and-false : (a b : Bool) → a ≡ true → (a && b) ≡ false → b ≡ false
-and-false true b e h = h
-and-false false b e h = let z : _≡_ {A = ℕ} 0 1 = cc in absurd (omega arith)
 
 not-so : (b : Bool) → b ≡ false → not b ≡ true
 not-so b e = rw e

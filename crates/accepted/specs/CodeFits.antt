@@ -1,19 +1,19 @@
 -- The code of an accepted module: every number in an instruction names what is there, and every distance is a time (document 01, 'The code').
 use Prim.Native.Nat.{ℕ, zero, suc, _+_, _-_, _≤_, _<_}
 use native.Mathlib.Omega.{arith}
-use mathlib.Core.Path.{_≡_, refl, sym, ap, _∙_}
-use mathlib.Core.Bool.{Bool, true, false, cond}
+use mathlib.Core.Path.{_≡_, refl, ap}
+use mathlib.Core.Bool.{Bool, true, false}
 use mathlib.Core.Option.{Option, none, some}
-use mathlib.Core.List.{List, [], _∷_, _++_, map}
+use mathlib.Core.List.{List, [], _∷_, map}
 use lib.ListN.{length, getD, length-append, length-map}
 use lib.Dec.{ltb}
 use borrow.Author.Tests.{ltb-true}
 use Rattle.model.specs.Rooms.{periodRoom}
-use Rattle.model.specs.Modules.{Module, Mode, Task, Act, Call, Update, each}
-use Rattle.model.specs.Instructions.{Instr, nop, future, call, release, iff, jump, return, switch, Driver, updates, releases}
+use Rattle.model.specs.Modules.{Module, Mode, Task, Act, Call, each}
+use Rattle.model.specs.Instructions.{Instr, nop, future, call, release, iff, jump, return, switch, updates, releases}
 use Rattle.timing.specs.Slots.{closing, opening}
 use Rattle.timing.specs.SlotLaws.{Each, each-keep}
-use Rattle.timing.specs.InstantLaws.{Lasting, next-le, next-after, first-instant}
+use Rattle.timing.specs.InstantLaws.{next-after}
 use Rattle.timing.specs.Rules.{noMode, nextInstant}
 use Rattle.timing.specs.Accepted.{Accepted, ModeFits, CallFits, UpdateFits, Guarded, Leads}
 use Rattle.timing.specs.Code.{Piece, _⊕_, fixed, guarded, pieces, terminating, Driven, drivenFrom, drivenUpdates, drivenCalls, updating, switching, releasing, front, await, back, instantsFrom, instantsOf, firstOr, laterBlocks, modeCode, modeDriverCount, codeFrom, codeOf, beginsFrom, beginsOf, terminatesFrom, modeDrivers, driversOf}
@@ -160,7 +160,7 @@ module _ (size drivers : ℕ) (M : Module) where
 
   -- ---- all modes
 
-  abbrev driversFrom : List Mode → ℕ
+  abbrev pub driversFrom : List Mode → ℕ
   driversFrom [] = 0
   driversFrom (m ∷ ms) = modeDriverCount m + driversFrom ms
 
@@ -206,7 +206,7 @@ module _ (M : Module) where
       let c = mode-drivers size drivers (M .modes) in
       omega (arith, a, b, c)
 
-  every-mode : (ms : List Mode) → ((k : ℕ) → k < length ms → ModeFits M (getD ms k noMode)) → Each (ModeFits M) ms
+  pub every-mode : (ms : List Mode) → ((k : ℕ) → k < length ms → ModeFits M (getD ms k noMode)) → Each (ModeFits M) ms
   every-mode [] h = tt
   every-mode (m ∷ ms) h = (h 0 (omega arith), every-mode ms (λ k l. h (suc k) (omega arith)))
 

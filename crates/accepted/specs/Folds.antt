@@ -3,9 +3,9 @@ use Prim.Native.Nat.{ℕ, zero, suc, _+_, _-_, _≤_, _<_}
 use mathlib.Core.Path.{_≡_, refl, sym, ap, _∙_}
 use mathlib.Core.List.{List, [], _∷_, _++_, append-nil, append-assoc}
 use mathlib.Core.Bool.{Bool, true, false}
-use mathlib.Core.Option.{Option, none, some}
+use mathlib.Core.Option.{none, some}
 use native.Mathlib.Omega.{arith}
-use lib.ListN.{length, length-append}
+use lib.ListN.{length}
 use Rattle.text.specs.declared.State.{State}
 use Rattle.text.specs.declared.State.the-variants as Q
 use Rattle.text.specs.declared.Item.{Item}
@@ -14,17 +14,16 @@ use Rattle.text.specs.Items.{itemAt, goes, onto, itemsIn, itemsOf, refusedOr, r
 use Rattle.text.specs.Advance.{item-ahead}
 use Rattle.text.specs.PartsLaws.{unsaid}
 use Rattle.refusals.specs.declared.Row.{Row}
-use Rattle.refusals.specs.declared.Verdict.{Verdict}
 use Rattle.refusals.specs.declared.Verdict.the-variants.{Fine}
 use Rattle.refusals.specs.Checks.{first}
 use Rattle.refusals.specs.ChecksLaws.{fine-parts}
 use Rattle.refusals.specs.Declarations.{declares, rowsAfter}
-use Rattle.refusals.specs.Draft.{drafted}
 use Rattle.refusals.specs.Activities.{endRules}
 use Rattle.refusals.specs.Rules.{Env, nothing, grow, rules, rulesFrom, envAfter}
 use Rattle.refusals.specs.NamesLaws.{env-rows}
 use Rattle.refusals.specs.Texts.{declaredBy, envBy, verdictOf}
-use Rattle.accepted.specs.Steps.{Does, Comes, module-begins, module-section, constant, sensor, actuator, task-begins, task-section, input, output, task-ends, mode-begins, mode-section, activity, guard-alone, guard, guard-arg, guard-last, invoke-alone, invoke, arg, arg-last, update, switch, mode-ends, module-ends, text-ends, item-comes}
+use Rattle.accepted.specs.NamedItems.{Worded, item-worded}
+use Rattle.accepted.specs.Steps.{Comes, module-begins, module-section, constant, sensor, actuator, task-begins, task-section, input, output, task-ends, mode-begins, mode-section, activity, guard-alone, guard, guard-arg, guard-last, invoke-alone, invoke, arg, arg-last, update, switch, mode-ends, module-ends, text-ends, item-comes}
 
 -- an item that neither goes on nor refuses is the end, and comes last
 ends-so : {s : List ℕ} {q p : State} {at next : ℕ} {item : Item} → Comes s q at item p next → goes item ≡ false → (item ≡ I.End) × (p ≡ Q.Finish)
@@ -91,6 +90,11 @@ module _ (s : List ℕ) (all : List Row) (last : Env) where
   Keeps Holds =
       (q p : State) (at next : ℕ) (item : Item) (env : Env) → Comes s q at item p next → first (rules s all env item) ≡ Fine → Reaches (grow s all env item) → Holds q at env → Holds p next (grow s all env item)
 
+  -- the same, where the item's names may be used too
+  abbrev pub KeepsNamed : (State → ℕ → Env → Type 0) → Type 0
+  KeepsNamed Holds =
+      (q p : State) (at next : ℕ) (item : Item) (env : Env) → Comes s q at item p next → Worded s item → first (rules s all env item) ≡ Fine → Reaches (grow s all env item) → Holds q at env → Holds p next (grow s all env item)
+
   pub record Ends (Holds : State → ℕ → Env → Type 0) : Type 0 where
     pub place : ℕ
     pub holds : Holds Q.Finish place last
@@ -98,7 +102,7 @@ module _ (s : List ℕ) (all : List Row) (last : Env) where
     pub end-fine : first (endRules (before .draft .started) (length s)) ≡ Fine
     pub same-draft : before .draft ≡ last .draft
 
-  pub folds : (Holds : State → ℕ → Env → Type 0) → Keeps Holds → (fuel : ℕ) (q : State) (at : ℕ) (env : Env) → at ≤ length s → length s < at + fuel
+  pub folds : (Holds : State → ℕ → Env → Type 0) → KeepsNamed Holds → (fuel : ℕ) (q : State) (at : ℕ) (env : Env) → at ≤ length s → length s < at + fuel
       → envAfter s all env (itemsIn fuel s q at) ≡ last → refusedIn (itemsIn fuel s q at) ≡ none → first (rulesFrom s all env (itemsIn fuel s q at)) ≡ Fine → Holds q at env → Ends Holds
   unfolding itemsIn envAfter rulesFrom refusedIn
   folds Holds keeps zero q at env h f to r v i = absurd (omega arith)
@@ -127,11 +131,11 @@ module _ (s : List ℕ) (all : List Row) (last : Env) where
           let a = item-ahead s q at h e in
           let (v0, v1) = fine-parts (rules s all env item) (rulesFrom s all (grow s all env item) more) v in
           let (n, rest) = passes-on item more e r in
-          on (a .0) (a .1) to rest v1 (keeps _ _ _ _ _ env (item-comes s q at n) v0 (record { items = more; to = to }) i)
+          on (a .0) (a .1) to rest v1 (keeps _ _ _ _ _ env (item-comes s q at n) (item-worded s q at) v0 (record { items = more; to = to }) i)
       by false e to r v on =
           let (v0, v1) = fine-parts (rules s all env item) [] v in
           let (c, d) = ends-so (item-comes s q at r) e in
-          at-end c d v0 to (keeps _ _ _ _ _ env (item-comes s q at r) v0 (record { items = []; to = to }) i)
+          at-end c d v0 to (keeps _ _ _ _ _ env (item-comes s q at r) (item-worded s q at) v0 (record { items = []; to = to }) i)
 
 -- ---- what grows
 
@@ -160,5 +164,8 @@ module _ (s : List ℕ) where
   pub last-rows : lastEnv .rows ≡ allRows
   last-rows = env-rows s allRows nothing (itemsOf s)
 
+  pub whole-named : syntaxOf s ≡ none → verdictOf s ≡ Fine → (Holds : State → ℕ → Env → Type 0) → KeepsNamed s allRows lastEnv Holds → Holds Q.Begin 0 nothing → Ends s allRows lastEnv Holds
+  whole-named e v Holds keeps i = folds s allRows lastEnv Holds keeps (length s + 1 - 0) Q.Begin 0 nothing (omega arith) (omega arith) refl e v i
+
   pub whole : syntaxOf s ≡ none → verdictOf s ≡ Fine → (Holds : State → ℕ → Env → Type 0) → Keeps s allRows lastEnv Holds → Holds Q.Begin 0 nothing → Ends s allRows lastEnv Holds
-  whole e v Holds keeps i = folds s allRows lastEnv Holds keeps (length s + 1 - 0) Q.Begin 0 nothing (omega arith) (omega arith) refl e v i
+  whole e v Holds keeps i = whole-named e v Holds (λ q p at next item env c w. keeps q p at next item env c) i

@@ -1,9 +1,8 @@
 -- Room for guards: a mode has at most 32 activities, and each at most one guard.
-use Prim.Native.Nat.{ℕ, _+_, _*_, _≤_, _<_}
+use Prim.Native.Nat.{ℕ, _+_, _*_, _≤_}
 use native.Mathlib.Omega.{arith}
 use mathlib.Core.Path.{_≡_, refl}
 use mathlib.Core.List.{List, [], _∷_, _++_}
-use mathlib.Core.Bool.{Bool, true, false}
 use mathlib.Core.Option.{Option, none, some}
 use borrow.Author.Tests.{leb-false}
 use lib.ListN.{length, length-append}
@@ -23,13 +22,13 @@ use Rattle.refusals.specs.Checks.{first}
 use Rattle.refusals.specs.ChecksLaws.{fine-one}
 use Rattle.refusals.specs.Values.{numberOf}
 use Rattle.refusals.specs.Activities.{activitiesIn, headRules}
-use Rattle.refusals.specs.Draft.{Draft, Doing, guardOf, lastSourced, drafted}
+use Rattle.refusals.specs.Draft.{Draft, guardOf, lastSourced, drafted}
 use Rattle.refusals.specs.Ports.{portNamed}
 use Rattle.refusals.specs.Rules.{Env, grow, rules, envAfter}
 use Rattle.refusals.specs.Texts.{verdictOf, moduleOf}
 use Rattle.accepted.specs.Steps.{plain, guarded, Comes, module-begins, module-section, constant, sensor, actuator, task-begins, task-section, input, output, task-ends, mode-begins, mode-section, activity, guard-alone, guard, guard-arg, guard-last, invoke-alone, invoke, arg, arg-last, update, switch, mode-ends, module-ends, text-ends}
 use Rattle.timing.specs.SlotLaws.{Each}
-use Rattle.accepted.specs.Lists.{each-append}
+use Rattle.accepted.specs.Lists.{each-append, one-longer}
 use Rattle.accepted.specs.Folds.{Reaches, whole, allRows, lastEnv}
 
 guard-one : (function : Option Function) (operands : List Operand) → length (guardOf function operands) ≤ 1
@@ -103,9 +102,6 @@ Rooming (Q.Guarded k) at env = Roomed (length (env .draft .built .guards)) (leng
 Rooming (Q.GuardArgs k) at env = Roomed (length (env .draft .built .guards)) (length (env .draft .built .modes)) (activitiesIn (env .draft .mode)) 31
 Rooming Q.Args at env = Roomed (length (env .draft .built .guards)) (length (env .draft .built .modes)) (activitiesIn (env .draft .mode)) 32
 Rooming Q.Finish at env = Roomed (length (env .draft .built .guards)) (length (env .draft .built .modes)) 0 0
-
-one-longer : {A : Type 0} (xs : List A) (x : A) → length (xs ++ (x ∷ [])) ≡ length xs + 1
-one-longer xs x = length-append xs (x ∷ [])
 
 -- one activity more, of any kind
 one-act : (guards more modes calls updates switches calls' updates' switches' : ℕ) → more ≤ guards + 1 → calls' + updates' + switches' ≡ calls + updates + switches + 1

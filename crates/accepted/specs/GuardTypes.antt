@@ -3,8 +3,8 @@ use Prim.Native.Nat.{ℕ, _+_, _<_}
 use native.Mathlib.Omega.{arith}
 use mathlib.Core.Path.{_≡_, refl, sym, ap, _∙_}
 use mathlib.Core.List.{List, [], _∷_, _++_, append-nil}
-use mathlib.Core.Bool.{Bool, true, false, cond, _&&_}
-use mathlib.Core.Option.{Option, none, some}
+use mathlib.Core.Bool.{true, cond}
+use mathlib.Core.Option.{none, some}
 use borrow.Author.Tests.{eq-eqb}
 use lib.Dec.{eqb, ltb}
 use lib.ListN.{length, getD, length-map}
@@ -42,7 +42,7 @@ use Rattle.accepted.specs.GuardsFit.{guard-number, wanted-length}
 use Rattle.accepted.specs.Kinds.{rows-placed}
 use Rattle.accepted.specs.PortOrder.{kinds-are}
 use Rattle.accepted.specs.TypesFit.{parts-fit}
-use Rattle.accepted.specs.Meanings.{rolesOf, typesOf, Clear, rows-clear, rows-each, Argued, argument-argued}
+use Rattle.accepted.specs.Meanings.{rolesOf, typesOf, Clear, rows-clear, rows-each, argument-argued}
 
 module _ (M : Module) where
   abbrev GoodOperand : Operand → Type 0

@@ -1,13 +1,13 @@
 -- The guards of an accepted text: operands in range, and as many as the function asks for.
 use Prim.Native.Nat.{ℕ, _+_, _-_}
 use native.Mathlib.Omega.{arith}
-use mathlib.Core.Path.{_≡_, refl, sym, ap, _∙_}
-use mathlib.Core.List.{List, [], _∷_, _++_, map, append-nil}
-use mathlib.Core.Bool.{Bool, true, false, cond, _&&_, not}
-use mathlib.Core.Option.{Option, none, some}
+use mathlib.Core.Path.{_≡_, refl, sym, _∙_}
+use mathlib.Core.List.{List, [], _∷_, _++_, append-nil}
+use mathlib.Core.Bool.{true, cond, _&&_}
+use mathlib.Core.Option.{none, some}
 use borrow.Author.Tests.{leb-false, lt-ltb, not-false, eqb-true, eq-eqb}
 use lib.Dec.{eqb, ltb}
-use lib.ListN.{length, getD, drop, length-append, length-map}
+use lib.ListN.{length, getD, length-append, length-map}
 use Rattle.model.specs.Modules.{Module}
 use Rattle.model.specs.Values.{functionBy, operandsOf, noOperand}
 use Rattle.model.specs.declared.Function.{Function}
@@ -35,16 +35,12 @@ use Rattle.refusals.specs.Rules.{Env, grow, rules, wantedNext}
 use Rattle.refusals.specs.Texts.{verdictOf, moduleOf}
 use Rattle.accepted.specs.Steps.{plain, guarded, Comes, module-begins, module-section, constant, sensor, actuator, task-begins, task-section, input, output, task-ends, mode-begins, mode-section, activity, guard-alone, guard, guard-arg, guard-last, invoke-alone, invoke, arg, arg-last, update, switch, mode-ends, module-ends, text-ends}
 use Rattle.accepted.specs.Folds.{Reaches, whole, allRows, lastEnv, last-rows}
-use Rattle.accepted.specs.Lists.{each-append}
+use Rattle.accepted.specs.Lists.{each-append, and-false}
 use Rattle.accepted.specs.RowsFit.{rows-fit}
 use Rattle.accepted.specs.Tallies.{rows-tallied}
 use Rattle.accepted.specs.Known.{Within, all-within, rows-within, argument-in}
 
 -- ---- a guard's function and the number of its operands
-
-and-false : (a b : Bool) → a ≡ true → (a && b) ≡ false → b ≡ false
-and-false true b e h = h
-and-false false b e h = let z : _≡_ {A = ℕ} 0 1 = cc in absurd (omega arith)
 
 pub guard-number : (number : ℕ) (name : Name) (arguments : ℕ) → first (guardRules number name arguments) ≡ Fine → (ltb number functionsGiven ≡ true) × (operandsOf (functionBy number) ≡ arguments)
 unfolding guardRules

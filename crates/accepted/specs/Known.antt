@@ -1,19 +1,16 @@
 -- What a name means that is known: a task's, a mode's or a port's number of the module, or a word.
 use Prim.Native.Nat.{ℕ, _<_}
-use native.Mathlib.Omega.{arith}
-use mathlib.Core.Path.{_≡_, refl, sym, ap, subst, _∙_}
-use mathlib.Core.List.{List, [], _∷_, _++_}
-use mathlib.Core.Bool.{Bool, true, false, cond, _&&_}
-use mathlib.Core.Option.{Option, none, some}
-use lib.Dec.{eqb, ltb}
+use mathlib.Core.Path.{_≡_, refl, sym, subst, _∙_}
+use mathlib.Core.List.{List, [], _++_}
+use mathlib.Core.Bool.{Bool, true, false, cond}
+use lib.Dec.{eqb}
 use lib.ListN.{length}
 use mir.Syntax.{w32}
-use mir.Val.{Fits}
 use mir.Facts.{sfits-toZ}
 use Rattle.model.specs.Modules.{Module}
 use Rattle.model.specs.Values.{valueOf, boolean}
 use Rattle.model.specs.declared.Operand.the-variants as O
-use Rattle.model.specs.declared.Value.the-variants.{Int, Flag}
+use Rattle.model.specs.declared.Value.the-variants.{Flag}
 use Rattle.text.specs.declared.Name.{Name}
 use Rattle.text.specs.declared.Port.{Port}
 use Rattle.text.specs.declared.Item.{Item}
@@ -30,7 +27,7 @@ use Rattle.refusals.specs.Ports.{taskNamed, outputOf, portNamed, argumentNamed,
 use Rattle.refusals.specs.Draft.{operandOf}
 use Rattle.refusals.specs.Rules.{Env, grow}
 use Rattle.accepted.specs.Folds.{Reaches, rows-first}
-use Rattle.accepted.specs.Lists.{each-first, each-map}
+use Rattle.accepted.specs.Lists.{each-first, each-map, and-false}
 use Rattle.accepted.specs.RowsFit.{limitOf, RowFits, RowsFit, named-in, use-known}
 use Rattle.accepted.specs.Tallies.{Tallied}
 
@@ -60,10 +57,6 @@ module _ (M : Module) (s : List ℕ) (rows : List Row) (known : Each (Within M) 
 
   sort-port : (row : Row) (sort : ℕ) → eqb sort constantSort ≡ false → row .sort ≡ sort → eqb (row .sort) constantSort ≡ false
   sort-port row sort z q = rw q z
-
-  and-false : (a b : Bool) → a ≡ true → (a && b) ≡ false → b ≡ false
-  and-false true b e h = h
-  and-false false b e h = let z : _≡_ {A = ℕ} 0 1 = cc in absurd (omega arith)
 
   dotted-in : (wanted : ℕ) (port : Port) → first (dottedRules wanted (taskNamed s rows (port .first)) (outputOf s rows (taskNamed s rows (port .first)) (port .second)) port) ≡ Fine → Sourced (outputOf s rows (taskNamed s rows (port .first)) (port .second))
   unfolding dottedRules outputOf

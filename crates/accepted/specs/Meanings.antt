@@ -1,17 +1,16 @@
 -- What a name means that is used: a port of the right role and type, or a constant of the right type.
-use Prim.Native.Nat.{ℕ, zero, suc, _+_, _<_}
+use Prim.Native.Nat.{ℕ, zero, suc, _<_}
 use native.Mathlib.Omega.{arith}
 use mathlib.Core.Path.{_≡_, refl, sym, ap, subst, _∙_}
 use mathlib.Core.List.{List, [], _∷_, _++_, map}
-use mathlib.Core.Bool.{Bool, true, false, cond, _&&_, _||_}
-use mathlib.Core.Option.{Option, none, some}
+use mathlib.Core.Bool.{Bool, true, false, cond}
 use borrow.Author.Tests.{eqb-true, eqb-false}
-use lib.Dec.{eqb, ltb}
-use lib.ListN.{length, getD}
+use lib.Dec.{eqb}
+use lib.ListN.{getD}
 use Rattle.model.specs.Modules.{Module, portTypes}
 use Rattle.model.specs.Values.{valueOf, boolean}
 use Rattle.model.specs.declared.Operand.the-variants as O
-use Rattle.model.specs.declared.Value.the-variants.{Int, Flag}
+use Rattle.model.specs.declared.Value.the-variants.{Flag}
 use Rattle.file.specs.References.{portRoles, isSource, isActuator, goodArgument, argumentType}
 use Rattle.prescribed.specs.Tables.{argumentOf}
 use Rattle.text.specs.declared.Name.{Name}
@@ -30,12 +29,11 @@ use Rattle.refusals.specs.Ports.{taskNamed, outputOf, portNamed, argumentNamed,
 use Rattle.refusals.specs.Draft.{operandOf}
 use Rattle.refusals.specs.Rules.{Env, grow}
 use Rattle.accepted.specs.Folds.{Reaches, rows-first}
-use Rattle.accepted.specs.Lists.{each-first, each-map}
+use Rattle.accepted.specs.Lists.{each-first, and-false}
 use Rattle.accepted.specs.RowsFit.{named-in, use-known}
 use Rattle.accepted.specs.Kinds.{Kind, kindsIn, noKind, Placed}
 use Rattle.accepted.specs.PortOrder.{kindsOf, roleOf, types-are, roles-are}
 use Rattle.accepted.specs.TypesFit.{Typed, clash-same, use-agrees}
-use Rattle.accepted.specs.Acts.{and-false}
 
 map-at : (g : Kind → ℕ) (kinds : List Kind) (k : ℕ) → g noKind ≡ 0 → getD (map g kinds) k 0 ≡ g (getD kinds k noKind)
 map-at g [] k z = sym z

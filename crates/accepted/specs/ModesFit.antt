@@ -1,11 +1,10 @@
 -- The modes of an accepted text: slots that fit, no task twice, no switch amid a task, references in range.
-use Prim.Native.Nat.{ℕ, _+_, _%_, _≤_, _<_}
+use Prim.Native.Nat.{ℕ, _≤_, _<_}
 use native.Mathlib.Omega.{arith}
-use mathlib.Core.Path.{_≡_, refl, sym, ap, _∙_}
-use mathlib.Core.List.{List, [], _∷_, _++_, map}
-use mathlib.Core.Bool.{Bool, true, false, cond, _&&_}
-use mathlib.Core.Option.{Option, none, some}
-use lib.Dec.{eqb, ltb}
+use mathlib.Core.Path.{_≡_, refl, ap}
+use mathlib.Core.List.{List, [], _∷_, _++_}
+use mathlib.Core.Bool.{true, false}
+use mathlib.Core.Option.{none, some}
 use lib.ListN.{length, length-append}
 use Rattle.model.specs.Rooms.{periodRoom}
 use Rattle.model.specs.Modules.{Module, Mode, Act, Call, Update}
@@ -24,23 +23,23 @@ use Rattle.refusals.specs.declared.Row.{Row}
 use Rattle.refusals.specs.declared.Verdict.the-variants.{Fine}
 use Rattle.refusals.specs.Checks.{first}
 use Rattle.refusals.specs.ChecksLaws.{fine-parts, fine-one}
-use Rattle.refusals.specs.Names.{moduleScope, actuatorSort, taskSort, modeSort, isKnown, isUnknown}
-use Rattle.refusals.specs.Refusals.{among, dividesAll}
+use Rattle.refusals.specs.Names.{moduleScope, actuatorSort, taskSort, modeSort, isKnown}
+use Rattle.refusals.specs.Refusals.{among}
 use Rattle.refusals.specs.Values.{numberOf}
 use Rattle.refusals.specs.Declarations.{newRules}
-use Rattle.refusals.specs.Ports.{taskNamed, portNamed, portRules}
-use Rattle.refusals.specs.Activities.{startRules, periodRules, switchKind, frequenciesIn, invokedIn, invokeRules, actuatorNamed, actuatorRules, modeNamed, targetRules}
-use Rattle.refusals.specs.Draft.{Draft, Doing, guardOf, guardNumber, sourced, lastSourced, withCall, withUpdate, withSwitch, withSource, acting}
+use Rattle.refusals.specs.Ports.{taskNamed, portRules}
+use Rattle.refusals.specs.Activities.{startRules, periodRules, switchKind, invokedIn, invokeRules, actuatorNamed, actuatorRules, modeNamed, targetRules}
+use Rattle.refusals.specs.Draft.{Draft, guardOf, guardNumber, lastSourced, withCall, withUpdate, withSwitch, withSource, acting}
 use Rattle.refusals.specs.Rules.{Env, grow, rules, wantedNext}
 use Rattle.refusals.specs.Texts.{verdictOf, moduleOf}
 use Rattle.accepted.specs.Steps.{plain, guarded, Comes, module-begins, module-section, constant, sensor, actuator, task-begins, task-section, input, output, task-ends, mode-begins, mode-section, activity, guard-alone, guard, guard-arg, guard-last, invoke-alone, invoke, arg, arg-last, update, switch, mode-ends, module-ends, text-ends}
 use Rattle.accepted.specs.Folds.{Reaches, whole, allRows, lastEnv, last-rows}
-use Rattle.accepted.specs.Lists.{each-append, each-map}
+use Rattle.accepted.specs.Lists.{each-append, each-map, each-none, and-false}
 use Rattle.accepted.specs.RowsFit.{rows-fit}
 use Rattle.accepted.specs.Tallies.{rows-tallied}
 use Rattle.accepted.specs.Known.{Within, all-within, rows-within, value-below, port-in}
 use Rattle.accepted.specs.GuardRoom.{guards-grow}
-use Rattle.accepted.specs.Acts.{and-false, period-range, Heads, head-fine, guard-below, distinct-append, each-sourced, distinct-sourced, all-divided}
+use Rattle.accepted.specs.Acts.{period-range, Heads, head-fine, guard-below, distinct-append, each-sourced, distinct-sourced, all-divided}
 
 module _ (M : Module) where
   pub record CallOk (period : ℕ) (call : Act Call) : Type 0 where
@@ -84,9 +83,6 @@ module _ (M : Module) where
 
   abbrev pub Moding : State → ℕ → Env → Type 0
   Moding q at env = Each ModeOk (env .draft .built .modes) × ModeIn q (env .draft)
-
-  each-none : {A : Type 0} (C : A → Type 0) (xs : List A) → xs ≡ [] → Each C xs
-  each-none C xs e = rw e tt
 
   -- ---- one activity more
 

@@ -1,11 +1,11 @@
 -- The ports of the module are those that its rows declare: sensors, actuators, then task by task inputs and outputs.
-use Prim.Native.Nat.{ℕ, _+_, _≤_, _<_}
+use Prim.Native.Nat.{ℕ, _≤_}
 use native.Mathlib.Omega.{arith}
 use mathlib.Core.Path.{_≡_, refl, sym, ap, _∙_}
 use mathlib.Core.List.{List, [], _∷_, _++_, map, map-append, append-nil, append-assoc}
-use mathlib.Core.Bool.{Bool, true, false, cond}
-use mathlib.Core.Option.{Option, none, some}
-use lib.ListN.{length, getD}
+use mathlib.Core.Bool.{false}
+use mathlib.Core.Option.{none}
+use lib.ListN.{getD}
 use Rattle.model.specs.Modules.{Module, Sensor, Actuator, Output, Task, each, taskTypes, portTypes}
 use Rattle.file.specs.References.{taskRoles, portRoles}
 use Rattle.text.specs.declared.State.{State}
@@ -24,7 +24,7 @@ use Rattle.accepted.specs.Steps.{plain, guarded, Comes, module-begins, m
 use Rattle.accepted.specs.Folds.{Reaches, whole, allRows, lastEnv, last-rows}
 use Rattle.accepted.specs.Kinds.{Kind, kind, kindsIn, kinds-port, kinds-other}
 
-abbrev taskKinds : Task → List Kind
+abbrev pub taskKinds : Task → List Kind
 taskKinds task = map (λ i. kind i inputSort) (task .inputs) ++ map (λ o. kind (o .type) outputSort) (task .outputs)
 
 unfoldable pub kindsOf : List Sensor → List Actuator → List Task → List Kind

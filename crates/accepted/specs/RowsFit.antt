@@ -1,13 +1,13 @@
 -- The rows that a text declares: numbers in range, and a name that is known means one of them.
-use Prim.Native.Nat.{ℕ, zero, suc, _+_, _-_, _%_, _^_, _≤_, _<_}
+use Prim.Native.Nat.{ℕ, zero, suc, _+_, _≤_, _<_}
 use native.Mathlib.Omega.{arith}
-use mathlib.Core.Path.{_≡_, refl, sym, ap, _∙_}
+use mathlib.Core.Path.{_≡_, refl}
 use mathlib.Core.List.{List, [], _∷_, _++_, append-nil}
 use mathlib.Core.Bool.{Bool, true, false, cond}
-use mathlib.Core.Option.{Option, none, some}
-use borrow.Author.Tests.{eqb-true, eqb-false, ltb-false}
+use mathlib.Core.Option.{none}
+use borrow.Author.Tests.{eqb-true, ltb-false}
 use lib.Dec.{eqb, ltb}
-use lib.ListN.{length, getD}
+use lib.ListN.{getD}
 use Rattle.text.specs.declared.Name.{Name}
 use Rattle.text.specs.declared.Literal.{Literal}
 use Rattle.text.specs.declared.Literal.the-variants.{Truth, Number, Named}
@@ -19,14 +19,14 @@ use Rattle.refusals.specs.declared.Row.{Row}
 use Rattle.refusals.specs.declared.Verdict.the-variants.{Fine}
 use Rattle.refusals.specs.Checks.{first}
 use Rattle.refusals.specs.ChecksLaws.{fine-parts, fine-one}
-use Rattle.refusals.specs.Names.{moduleScope, constantSort, taskSort, modeSort, isSort, isPort, unknown, isUnknown, isRow, find, meaning, ofSort, named, count, noType}
+use Rattle.refusals.specs.Names.{moduleScope, constantSort, taskSort, modeSort, isSort, isPort, unknown, isUnknown, isRow, find, meaning, named, count, noType}
 use Rattle.refusals.specs.NamesLaws.{count-append}
 use Rattle.refusals.specs.Values.{numberOf, intWord, constantNamed, literalWord, useRules, valueRules}
 use Rattle.refusals.specs.Declarations.{tasksIn, modesIn, portsIn, declares, newRules}
 use Rattle.refusals.specs.Rules.{Env, grow, rules}
 use Rattle.refusals.specs.Texts.{verdictOf}
 use Rattle.accepted.specs.Steps.{Comes, module-begins, module-section, constant, sensor, actuator, task-begins, task-section, input, output, task-ends, mode-begins, mode-section, activity, guard-alone, guard, guard-arg, guard-last, invoke-alone, invoke, arg, arg-last, update, switch, mode-ends, module-ends, text-ends}
-use Rattle.accepted.specs.Folds.{Reaches, Keeps, whole, allRows, lastEnv, last-rows}
+use Rattle.accepted.specs.Folds.{Reaches, whole, allRows, lastEnv, last-rows}
 use Rattle.accepted.specs.Lists.{each-append, each-map}
 
 -- below what the value of a row of this sort is: a constant's is a word, a task's, a mode's and a port's a number of one

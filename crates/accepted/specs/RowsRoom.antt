@@ -1,15 +1,15 @@
 -- Rooms: the rows of each sort are as many as the module's, and within the room (document 01, 'Room on the board').
 use Prim.Native.Nat.{ℕ, _+_, _≤_, _<_}
 use native.Mathlib.Omega.{arith}
-use mathlib.Core.Path.{_≡_, refl, sym, ap, _∙_}
-use mathlib.Core.List.{List, [], _∷_, _++_, map, append-nil}
+use mathlib.Core.Path.{_≡_, refl}
+use mathlib.Core.List.{List, [], _∷_, _++_, append-nil}
 use mathlib.Core.Bool.{Bool, true, false, cond}
-use mathlib.Core.Option.{Option, none, some}
+use mathlib.Core.Option.{none}
 use borrow.Author.Tests.{eqb-true, leb-false}
-use lib.Dec.{eqb, leb}
-use lib.ListN.{length, getD, length-append}
+use lib.Dec.{eqb}
+use lib.ListN.{getD}
 use Rattle.model.specs.Rooms.{constantRoom, sensorRoom, actuatorRoom, taskRoom, modeRoom, allPortRoom}
-use Rattle.model.specs.Modules.{Module, Task, each, taskTypes, taskPorts, portTypes}
+use Rattle.model.specs.Modules.{each}
 use Rattle.text.specs.declared.Name.{Name}
 use Rattle.text.specs.declared.State.{State}
 use Rattle.text.specs.declared.State.the-variants as Q
@@ -19,12 +19,12 @@ use Rattle.refusals.specs.declared.Row.{Row}
 use Rattle.refusals.specs.declared.Verdict.the-variants.{Fine}
 use Rattle.refusals.specs.Checks.{first}
 use Rattle.refusals.specs.ChecksLaws.{fine-parts, fine-one}
-use Rattle.refusals.specs.Names.{constantSort, sensorSort, actuatorSort, taskSort, modeSort, inputSort, outputSort, noType, count, isSort, isPort, isPortOf}
-use Rattle.refusals.specs.Values.{typeNamed, typeRules, valueRules}
+use Rattle.refusals.specs.Names.{constantSort, sensorSort, actuatorSort, taskSort, modeSort, inputSort, outputSort, count, isSort, isPort, isPortOf}
+use Rattle.refusals.specs.Values.{typeRules}
 use Rattle.refusals.specs.Declarations.{roomOf, lastScope, newRules, newPortRules}
 use Rattle.refusals.specs.Activities.{startRules}
 use Rattle.refusals.specs.Rules.{Env, grow, rules}
-use Rattle.refusals.specs.Texts.{verdictOf, moduleOf}
+use Rattle.refusals.specs.Texts.{verdictOf}
 use Rattle.accepted.specs.Steps.{Comes, module-begins, module-section, constant, sensor, actuator, task-begins, task-section, input, output, task-ends, mode-begins, mode-section, activity, guard-alone, guard, guard-arg, guard-last, invoke-alone, invoke, arg, arg-last, update, switch, mode-ends, module-ends, text-ends}
 use Rattle.accepted.specs.Folds.{Reaches, whole, allRows, lastEnv, last-rows}
 use Rattle.accepted.specs.RowsFit.{count-next, count-same}

@@ -3,14 +3,15 @@ use Prim.Native.Nat.{ℕ, zero, suc, _+_, _<_}
 use native.Mathlib.Omega.{arith}
 use mathlib.Core.Path.{_≡_, refl, sym, ap, _∙_}
 use mathlib.Core.List.{List, [], _∷_, _++_, append-nil, append-assoc}
-use mathlib.Core.Bool.{Bool, true, false, cond, _&&_}
-use mathlib.Core.Option.{Option, none, some}
+use mathlib.Core.Bool.{Bool, true, false, _&&_}
+use mathlib.Core.Option.{none}
 use borrow.Author.Tests.{eqb-true, eq-eqb, not-false}
-use lib.Dec.{eqb, ltb}
+use lib.Dec.{eqb}
 use lib.ListN.{length, getD, drop}
+use Rattle.codec.specs.Codecs.{and-right}
 use Rattle.model.specs.Instructions.{updates}
 use Rattle.model.specs.Modules.{Module, Task, noTask, Mode, Act, Call, Update}
-use Rattle.file.specs.References.{isSource, isActuator, takes, goodDriver}
+use Rattle.file.specs.References.{isSource, takes, goodDriver}
 use Rattle.text.specs.declared.Name.{Name}
 use Rattle.text.specs.declared.Port.{Port}
 use Rattle.text.specs.declared.State.{State}
@@ -24,7 +25,7 @@ use Rattle.refusals.specs.declared.Row.{Row}
 use Rattle.refusals.specs.declared.Verdict.the-variants.{Fine}
 use Rattle.refusals.specs.Checks.{first}
 use Rattle.refusals.specs.ChecksLaws.{fine-one, fine-parts}
-use Rattle.refusals.specs.Names.{moduleScope, taskSort, inputSort, noType, isKnown, isPortOf, count, types}
+use Rattle.refusals.specs.Names.{moduleScope, taskSort, noType, isKnown, count, types}
 use Rattle.refusals.specs.NamesLaws.{types-count}
 use Rattle.refusals.specs.Declarations.{tasksIn}
 use Rattle.refusals.specs.Ports.{taskNamed, portNamed, portRules}
@@ -34,12 +35,11 @@ use Rattle.refusals.specs.Rules.{Env, grow, rules, wantedNext}
 use Rattle.refusals.specs.Texts.{verdictOf, moduleOf}
 use Rattle.accepted.specs.Steps.{plain, guarded, Comes, module-begins, module-section, constant, sensor, actuator, task-begins, task-section, input, output, task-ends, mode-begins, mode-section, activity, guard-alone, guard, guard-arg, guard-last, invoke-alone, invoke, arg, arg-last, update, switch, mode-ends, module-ends, text-ends}
 use Rattle.accepted.specs.Folds.{Reaches, whole, allRows, lastEnv, last-rows}
-use Rattle.accepted.specs.Lists.{each-append, each-map}
-use Rattle.accepted.specs.RowsFit.{RowFits, RowsFit, named-in, Fitting}
-use Rattle.accepted.specs.Tallies.{Tallying, nothing-yet}
+use Rattle.accepted.specs.Lists.{each-append, each-map, and-false}
+use Rattle.accepted.specs.RowsFit.{RowFits, RowsFit, named-in}
+use Rattle.accepted.specs.Tallies.{nothing-yet}
 use Rattle.accepted.specs.TaskPorts.{Told, told-types, Porting, porting}
-use Rattle.accepted.specs.Acts.{and-false}
-use Rattle.accepted.specs.Sources.{tasks-first, first-same}
+use Rattle.accepted.specs.TasksGrow.{tasks-first, first-same}
 use Rattle.accepted.specs.Kinds.{rows-placed}
 use Rattle.accepted.specs.PortOrder.{kinds-are}
 use Rattle.accepted.specs.TypesFit.{TaskFits, parts-fit}
@@ -256,3 +256,11 @@ modes-drive s e v =
     let k = rows-clear M (allRows s) (kinds-are s e v) (rw (last-rows s) at (p .rows-typed)) (rows-placed s e v) in
     let w = whole s e v (λ q at env. Porting q at env × Taking M s q at env) (λ q p' at next item env c f r h. (porting s (allRows s) (lastEnv s) env c f r (h .0), taking M s (allRows s) (lastEnv s) refl (last-rows s) k (p .tasks-fit) env c f r (h .0) (h .1))) ((tt, nothing-yet, (tt, tt)), (tt, tt)) in
     each-map (Whole M) (Drives M) (λ m h. record { taken = h .taken; updated = h .updated }) (M .modes) (w .holds .1 .0)
+
+-- as many sources as inputs
+pub takes-length : (roles kinds inputs sources : List ℕ) → takes roles kinds inputs sources ≡ true → length sources ≡ length inputs
+unfolding takes
+takes-length roles kinds [] [] h = refl
+takes-length roles kinds [] (p ∷ sources) h = let z : _≡_ {A = ℕ} 0 1 = cc in absurd (omega arith)
+takes-length roles kinds (w ∷ inputs) [] h = let z : _≡_ {A = ℕ} 0 1 = cc in absurd (omega arith)
+takes-length roles kinds (w ∷ inputs) (p ∷ sources) h = ap suc (takes-length roles kinds inputs sources (and-right (isSource roles p && eqb (getD kinds p 0) w) _ h))

@@ -4,7 +4,7 @@ use native.Mathlib.Omega.{arith}
 use mathlib.Core.Path.{_≡_, refl, sym, ap, _∙_}
 use mathlib.Core.List.{List, [], _∷_, _++_, map, append-nil}
 use mathlib.Core.Bool.{Bool, true, false, cond}
-use mathlib.Core.Option.{Option, none, some}
+use mathlib.Core.Option.{none}
 use lib.Dec.{eqb}
 use lib.ListN.{length, length-append, length-map}
 use Rattle.model.specs.Modules.{Module, Task, each, taskTypes, taskPorts, portTypes}
@@ -23,6 +23,7 @@ use Rattle.refusals.specs.Texts.{verdictOf, moduleOf}
 use Rattle.timing.specs.Accepted.{ports}
 use Rattle.accepted.specs.Steps.{plain, guarded, Comes, module-begins, module-section, constant, sensor, actuator, task-begins, task-section, input, output, task-ends, mode-begins, mode-section, activity, guard-alone, guard, guard-arg, guard-last, invoke-alone, invoke, arg, arg-last, update, switch, mode-ends, module-ends, text-ends}
 use Rattle.accepted.specs.Folds.{Reaches, whole, allRows, lastEnv, last-rows}
+use Rattle.accepted.specs.Lists.{one-longer}
 use Rattle.accepted.specs.RowsFit.{count-next, count-same}
 
 abbrev pub portsOf : List Task → ℕ
@@ -98,9 +99,6 @@ abbrev pub Tallying : State → ℕ → Env → Type 0
 Tallying q at env =
     Tallied (env .rows) (length (env .draft .built .sensors)) (length (env .draft .built .actuators)) (length (env .draft .built .tasks) + inTask q) (length (env .draft .built .modes) + inMode q)
     (length (env .draft .built .sensors) + length (env .draft .built .actuators) + portsOf (env .draft .built .tasks) + portsUnder (inTask q) (env .draft .task))
-
-abbrev one-longer : {A : Type 0} (xs : List A) (x : A) → length (xs ++ (x ∷ [])) ≡ length xs + 1
-one-longer xs x = length-append xs (x ∷ [])
 
 module _ (s : List ℕ) (all : List Row) (last : Env) where
   pub tallying : {q p : State} {at next : ℕ} {item : Item} (env : Env) → Comes s q at item p next → first (rules s all env item) ≡ Fine → Reaches s all last (grow s all env item) → Tallying q at env → Tallying p next (grow s all env item)

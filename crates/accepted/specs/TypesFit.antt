@@ -1,13 +1,12 @@
 -- Types and values: known types, and values that fit them (document 01, 'The file', types and values).
-use Prim.Native.Nat.{ℕ, _+_, _≤_, _<_}
+use Prim.Native.Nat.{ℕ, _<_}
 use native.Mathlib.Omega.{arith}
-use mathlib.Core.Path.{_≡_, refl, sym, ap, _∙_}
+use mathlib.Core.Path.{_≡_, refl}
 use mathlib.Core.List.{List, [], _∷_, _++_, append-nil}
 use mathlib.Core.Bool.{Bool, true, false, cond, not}
-use mathlib.Core.Option.{Option, none, some}
-use borrow.Author.Tests.{eqb-true, eqb-false, leb-false, not-false, ne-eqb}
+use mathlib.Core.Option.{none}
+use borrow.Author.Tests.{eqb-true, leb-false, not-false, ne-eqb}
 use lib.Dec.{eqb, leb}
-use lib.ListN.{length}
 use Rattle.model.specs.Values.{fitsType}
 use Rattle.model.specs.Modules.{Sensor, Actuator, Output, Task}
 use Rattle.text.specs.declared.Name.{Name}
@@ -21,17 +20,17 @@ use Rattle.refusals.specs.declared.Row.{Row}
 use Rattle.refusals.specs.declared.Verdict.the-variants.{Fine}
 use Rattle.refusals.specs.Checks.{first}
 use Rattle.refusals.specs.ChecksLaws.{fine-parts, fine-one}
-use Rattle.refusals.specs.Names.{letters, moduleScope, constantSort, sensorSort, actuatorSort, taskSort, modeSort, inputSort, outputSort, noType, named, isUnknown}
+use Rattle.refusals.specs.Names.{letters, moduleScope, constantSort, actuatorSort, taskSort, modeSort, outputSort, noType}
 use Rattle.refusals.specs.Refusals.{clash}
-use Rattle.refusals.specs.Values.{typeNamed, numberOf, constantNamed, literalType, literalWord, typeRules, useRules, valueRules}
+use Rattle.refusals.specs.Values.{typeNamed, constantNamed, literalType, literalWord, typeRules, useRules, valueRules}
 use Rattle.refusals.specs.Declarations.{newRules, newPortRules}
 use Rattle.refusals.specs.Draft.{withFunction}
 use Rattle.refusals.specs.Rules.{Env, grow, rules}
-use Rattle.refusals.specs.Texts.{verdictOf, moduleOf}
+use Rattle.refusals.specs.Texts.{verdictOf}
 use Rattle.accepted.specs.Steps.{plain, guarded, Comes, module-begins, module-section, constant, sensor, actuator, task-begins, task-section, input, output, task-ends, mode-begins, mode-section, activity, guard-alone, guard, guard-arg, guard-last, invoke-alone, invoke, arg, arg-last, update, switch, mode-ends, module-ends, text-ends}
-use Rattle.accepted.specs.Folds.{Reaches, whole, allRows, lastEnv, last-rows}
+use Rattle.accepted.specs.Folds.{whole, allRows, lastEnv}
 use Rattle.accepted.specs.Lists.{each-append}
-use Rattle.accepted.specs.RowsFit.{Fitting, fitting, RowFits, RowsFit, named-in, use-known, value-word}
+use Rattle.accepted.specs.RowsFit.{Fitting, fitting, RowsFit, named-in, use-known, value-word}
 
 -- what has a type has a known one, and a constant's value fits it
 pub record Typed (row : Row) : Type 0 where

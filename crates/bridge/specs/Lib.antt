@@ -7,3 +7,4 @@ pub mod Kept
 pub mod Asides
 pub mod Docked
 pub mod Faithful
+pub mod FromText

@@ -11,7 +11,7 @@ use lib.Dec.{eqb}
 use Rattle.model.specs.Values.{fitsType}
 use Rattle.model.specs.Clock.{fits}
 use Rattle.machine.specs.Store.{part}
-use Rattle.react.specs.Parts.{left, left-on, left-none}
+use Rattle.steps.specs.Parts.{left, left-on, left-none}
 
 abbrev pub fitsOne : ℕ → ℕ → ℕ → Bool
 fitsOne wanted type word = eqb type wanted && fitsType type word

@@ -13,9 +13,9 @@ use Rattle.machine.specs.Store.{Store, part, reaction}
 use Rattle.machine.specs.Calls as C
 use Rattle.machine.specs.Calls.{State, stoppedBy, cameTo, sensed, reacted, byInstant, tick, finish, atWork}
 use Rattle.machine.specs.CallLaws.{tick-by}
-use Rattle.react.specs.declared.Ending.{Ending}
-use Rattle.react.specs.declared.Ending.the-variants as E
-use Rattle.react.specs.Rows.{boardBy, reactive}
+use Rattle.steps.specs.declared.Ending.{Ending}
+use Rattle.steps.specs.declared.Ending.the-variants as E
+use Rattle.steps.specs.Rows.{boardBy, reactive}
 use Rattle.react.specs.Runs.{Shown, shownRes, shown}
 use Rattle.calls.specs.declared.Standing.{Standing}
 use Rattle.calls.specs.declared.Served.{Served}

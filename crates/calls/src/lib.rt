@@ -2,13 +2,12 @@
 // Promises: each call is its definition, for every table and every state: the answer, where the machine then stands, the ports and the results aside.
 // Builds on the calls of machine, on react, bits and cells.
 ghost use mathlib.Core.Path.{_≡_};
-ghost use mathlib.Core.Bool.{true, false};
 ghost use mathlib.Core.List.{List, []};
-ghost use Prim.Native.Nat.{ℕ, _+_};
+ghost use Prim.Native.Nat.{ℕ};
 ghost use Rattle.model.specs.Clock.{fits as fitsOf};
 ghost use Rattle.machine.specs.Store.{part};
 ghost use Rattle.machine.specs.Calls.{stoppedBy, reacted, tick, nextTask, finish, atWork};
-ghost use Rattle.react.specs.Rows.{boardBy, reactive};
+ghost use Rattle.steps.specs.Rows.{boardBy, reactive};
 ghost use Rattle.calls.specs.States.{stateOf, served, turned, ended};
 ghost use Rattle.calls.specs.Fitting.{fitsOne};
 use bits::Found;
@@ -16,7 +15,7 @@ use cells::Instant;
 use machine::Finishing;
 use machine::Reaction;
 use machine::Turn;
-use react::Ending;
+use steps::Ending;
 
 // The last accepted count, what remains, the mode, where the next reaction begins, the words of tasks; whether the machine is stopped, by which fault,
 // and which task was late.
@@ -302,15 +301,15 @@ pub fn finish_on<'a, 'b>(
             standing: at,
         };
     }
-    let from = react::task_cell(tasks, task, 2);
-    let count = react::task_cell(tasks, task, 3);
+    let from = steps::task_cell(tasks, task, 2);
+    let count = steps::task_cell(tasks, task, 3);
     if !fits(wanted, from, count, types, words) {
         return Ended {
             answer: Finishing::Refused(35),
             standing: at,
         };
     }
-    react::place(words, task * 8, aside);
+    steps::place(words, task * 8, aside);
     let mut on = at;
     on.finished = bits::join(at.finished, task);
     Ended {

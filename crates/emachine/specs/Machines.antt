@@ -8,7 +8,7 @@ use Rattle.tables.specs.declared.Table.{Table}
 use Rattle.machine.specs.Boards.{Board}
 use Rattle.machine.specs.Calls as C
 use Rattle.machine.specs.Calls.{State}
-use Rattle.react.specs.Rows.{boardBy}
+use Rattle.steps.specs.Rows.{boardBy}
 use Rattle.calls.specs.declared.Standing.{Standing}
 use Rattle.calls.specs.States.{stateOf}
 use Rattle.emachine.specs.declared.Machine.{Machine}

@@ -2,7 +2,6 @@
 // Promises: every call is its definition (document 01, 'The machine'), for every record, one that no start made included: the answer and every field.
 // Builds on the tables, on the calls of machine as definitions and of calls as code.
 ghost use mathlib.Core.Path.{_≡_};
-ghost use mathlib.Core.Bool.{true, false};
 ghost use Rattle.machine.specs.Calls.{tick as tickOf, nextTask, finish as finishOf, look as lookOf, tasksOut};
 ghost use Rattle.machine.specs.declared.Reaction.the-variants.{Refused};
 ghost use Rattle.machine.specs.Starts.{startOn, noMachine};
@@ -187,7 +186,7 @@ pub fn start_on<'b>(
         return refused(table, 32);
     }
     let mode = start_mode(&table.mode_rows, table.modes);
-    let pc = react::begin_of(&table.mode_rows, mode);
+    let pc = steps::begin_of(&table.mode_rows, mode);
     let at = Standing {
         clock: count,
         remaining: 0,

@@ -14,12 +14,12 @@ use Rattle.model.specs.Instructions.{Instr, nop, future, call, release, iff, ju
 use Rattle.machine.specs.Boards.{Board}
 use Rattle.machine.specs.Instructions.{Fault, wild, astray, Res, ok, bad, Future, Halt, Run, Tally, counted, step, exec, goOn, only, leave}
 use Rattle.machine.specs.Store.{Store, storeOps, reaction}
-use Rattle.react.specs.declared.Core.{Core}
-use Rattle.react.specs.declared.Ending.{Ending}
-use Rattle.react.specs.declared.Ending.the-variants as E
-use Rattle.react.specs.declared.After.{After}
-use Rattle.react.specs.declared.After.the-variants.{Next, Ended}
-use Rattle.react.specs.Steps.{storeOf, promiseOf, endingBy, haltedBy, goes, Stepped, stepped, obey, stepOf}
+use Rattle.steps.specs.declared.Core.{Core}
+use Rattle.steps.specs.declared.Ending.{Ending}
+use Rattle.steps.specs.declared.Ending.the-variants as E
+use Rattle.steps.specs.declared.After.{After}
+use Rattle.steps.specs.declared.After.the-variants.{Next, Ended}
+use Rattle.steps.specs.Steps.{storeOf, promiseOf, endingBy, haltedBy, goes, Stepped, stepped, obey, stepOf}
 
 -- How a run ended; where it returned, also the ports and the number of instructions.
 pub record Shown : Type 0 where
@@ -114,22 +114,22 @@ module _ (b : Board) (aside : List ℕ) (before : List ℕ) where
     one (nop marker) = refl
     one (future pc delay) = go (core .pledged)
       where
-        go : (pledged : Bool) → shown before (only (Rattle.react.specs.Steps.promise pledged (core .next) (core .delay)) (exec (storeOps b aside) (b .begins) (b .code) most (drop (suc (core .pc)) (b .code)) (core .mode) (some (record { pc = pc; delay = delay })) (step (obeyed steps)) (storeOf core ports)))
-            ≡ onward most (suc steps) (Rattle.react.specs.Steps.promised pc delay behind pledged) ports
+        go : (pledged : Bool) → shown before (only (Rattle.steps.specs.Steps.promise pledged (core .next) (core .delay)) (exec (storeOps b aside) (b .begins) (b .code) most (drop (suc (core .pc)) (b .code)) (core .mode) (some (record { pc = pc; delay = delay })) (step (obeyed steps)) (storeOf core ports)))
+            ≡ onward most (suc steps) (Rattle.steps.specs.Steps.promised pc delay behind pledged) ports
         go true = refl
         go false = refl
     one (call driver) = go (storeOps b aside .drive driver (storeOf core ports))
       where
         go : (res : Res Store)
             → shown before (goOn res (λ after. exec (storeOps b aside) (b .begins) (b .code) most (drop (suc (core .pc)) (b .code)) (core .mode) (promiseOf core) (counted 0 (storeOps b aside .ending driver (storeOf core ports)) (obeyed steps)) after))
-            ≡ onwardFrom most (suc steps) (Rattle.react.specs.Steps.settled behind ports res)
+            ≡ onwardFrom most (suc steps) (Rattle.steps.specs.Steps.settled behind ports res)
         go (ok after) = steps-alone most (drop (suc (core .pc)) (b .code)) (core .mode) (promiseOf core) (counted 0 (storeOps b aside .ending driver (storeOf core ports)) (obeyed steps)) (obeyed (suc steps)) after refl
         go (bad fault) = fault-shown before fault (suc steps) ports
     one (release task) = go (storeOps b aside .begin task (storeOf core ports))
       where
         go : (res : Res Store)
             → shown before (goOn res (λ after. exec (storeOps b aside) (b .begins) (b .code) most (drop (suc (core .pc)) (b .code)) (core .mode) (promiseOf core) (counted 1 0 (obeyed steps)) after))
-            ≡ onwardFrom most (suc steps) (Rattle.react.specs.Steps.settled behind ports res)
+            ≡ onwardFrom most (suc steps) (Rattle.steps.specs.Steps.settled behind ports res)
         go (ok after) = steps-alone most (drop (suc (core .pc)) (b .code)) (core .mode) (promiseOf core) (counted 1 0 (obeyed steps)) (obeyed (suc steps)) after refl
         go (bad fault) = fault-shown before fault (suc steps) ports
     one (iff guard other) = go (storeOps b aside .test guard (storeOf core ports))
@@ -141,8 +141,8 @@ module _ (b : Board) (aside : List ℕ) (before : List ℕ) where
     one (jump pc) = refl
     one return = go (core .pledged)
       where
-        go : (pledged : Bool) → shown before (leave (Rattle.react.specs.Steps.promise pledged (core .next) (core .delay)) (step (obeyed steps)) (core .mode) (storeOf core ports))
-            ≡ onward most (suc steps) (Rattle.react.specs.Steps.returned behind pledged) ports
+        go : (pledged : Bool) → shown before (leave (Rattle.steps.specs.Steps.promise pledged (core .next) (core .delay)) (step (obeyed steps)) (core .mode) (storeOf core ports))
+            ≡ onward most (suc steps) (Rattle.steps.specs.Steps.returned behind pledged) ports
         go true = refl
         go false = refl
     one (switch target) = refl

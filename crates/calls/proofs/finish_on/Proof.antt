@@ -1,5 +1,5 @@
 use Rattle.calls.specs.States.{work-within, storeOf}
-use Rattle.react.specs.RowLaws.{lot-outputs, lot-results}
+use Rattle.steps.specs.RowLaws.{lot-outputs, lot-results}
 use Rattle.machine.specs.Calls.{finish}
 use borrow.Author.Tests.{not-true, not-false}
 use mathlib.Core.List.{[]}

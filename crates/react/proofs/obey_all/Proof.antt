@@ -1,6 +1,6 @@
 use denote.Ref.{now}
 use Rattle.react.specs.Runs.{runs, goes-on, ends, over}
-use Rattle.react.specs.Rows.{reactive}
+use Rattle.steps.specs.Rows.{reactive}
 use native.Mathlib.Nat.{sub-zero}
 use mathlib.Core.List.{List}
 use mathlib.Core.Path.{_≡_, refl}

@@ -1,5 +1,5 @@
 use Rattle.react.specs.Runs.{whole-run}
-use Rattle.react.specs.Rows.{reactive}
+use Rattle.steps.specs.Rows.{reactive}
 use Rattle.guards.specs.Tabs.{length-tab}
 use denote.Ref.{now}
 use mathlib.Core.Path.{_∙_}

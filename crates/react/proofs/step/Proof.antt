@@ -1,4 +1,4 @@
-use Rattle.react.specs.Steps.{stepOf}
+use Rattle.steps.specs.Steps.{stepOf}
 use Rattle.guards.specs.Tabs.{length-tab, within-tab}
 use borrow.Author.Tests.{lt-ltb, le-ltb}
 use mathlib.Core.Path.{_∙_, refl}

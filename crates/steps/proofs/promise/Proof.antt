@@ -1,0 +1,12 @@
+use mathlib.Core.Path.{refl}
+use Rattle.steps.proofs.promise.Statement.{statement}
+use Rattle.steps.proofs.promise.Tie as tie
+
+returns : tie.Need-returns
+returns c = rw (c .if1 .taken) refl
+
+returns-2 : tie.Need-returns-2
+returns-2 c = rw (c .if1 .left) refl
+
+pub promise-spec : {M : Type 1} → statement M
+promise-spec = tie.close (tie.spec returns returns-2)

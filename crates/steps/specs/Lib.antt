@@ -1,0 +1,4 @@
+pub mod Rows
+pub mod RowLaws
+pub mod Steps
+pub mod Parts
