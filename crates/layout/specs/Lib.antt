@@ -1,0 +1,4 @@
+pub mod Rows
+pub mod Plain
+pub mod Filling
+pub mod Cells
