@@ -5,8 +5,9 @@ ghost use mathlib.Core.Path.{_≡_};
 ghost use mathlib.Core.List.{List, []};
 ghost use Prim.Native.Nat.{ℕ};
 ghost use Rattle.model.specs.Clock.{fits as fitsOf};
+ghost use Rattle.machine.specs.declared.Reaction.the-variants.{Idle};
 ghost use Rattle.machine.specs.Store.{part};
-ghost use Rattle.machine.specs.Calls.{stoppedBy, reacted, tick, nextTask, finish, atWork};
+ghost use Rattle.machine.specs.Calls.{stoppedBy, idled, reacted, tick, nextTask, finish, atWork};
 ghost use Rattle.steps.specs.Rows.{boardBy, reactive};
 ghost use Rattle.calls.specs.States.{stateOf, served, turned, ended};
 ghost use Rattle.calls.specs.Fitting.{fitsOne};
@@ -167,6 +168,19 @@ pub fn react_on<'a, 'b>(
     }
 }
 
+// The count is accepted, and less remains.
+fn idle(at: Standing, count: u32, left: u32) -> Served
+    ensures { λ r. ⌜ ((ports aside : List ℕ) → served r ports aside ≡ record { answer = Idle; state = idled (stateOf at ports aside) count left }) ⌝ }
+{
+    let mut on = at;
+    on.clock = count;
+    on.remaining = left;
+    Served {
+        answer: Reaction::Idle,
+        standing: on,
+    }
+}
+
 // Tick: 31 machine stopped; 32 readings of wrong count or type; 33 instant missed. Less than what remains: idle. Equal: one reaction.
 pub fn tick_on<'a, 'b>(
     instructions: u32,
@@ -202,15 +216,7 @@ pub fn tick_on<'a, 'b>(
     }
     let instant = cells::judge(at.clock, at.remaining, count);
     match instant {
-        Instant::Early(left) => {
-            let mut on = at;
-            on.clock = count;
-            on.remaining = left;
-            Served {
-                answer: Reaction::Idle,
-                standing: on,
-            }
-        }
+        Instant::Early(left) => idle(at, count, left),
         Instant::Due => react_on(
             instructions,
             code,

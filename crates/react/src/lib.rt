@@ -9,7 +9,7 @@ ghost use Rattle.model.specs.Modules.{place as placed};
 ghost use Rattle.machine.specs.Store.{reaction};
 ghost use Rattle.steps.specs.Rows.{reactive};
 ghost use Rattle.steps.specs.Steps.{stepped, stepOf};
-ghost use Rattle.react.specs.Runs.{shown, shows, closes, runs};
+ghost use Rattle.react.specs.Runs.{shown, shows, closes};
 use steps::After;
 use steps::Core;
 use steps::Ending;
@@ -69,12 +69,26 @@ fn obey_all<'a>(
     tasks: &'a [u32],
     aside: &'a [u32],
     ports: &mut [u32; 320],
-    start: Core,
+    mode: u32,
+    pc: u32,
+    out: u64,
+    waiting: u64,
+    finished: u64,
 ) -> Ran
     ensures { λ r. ⌜ ((before : List ℕ) → closes before (r .ending) (r .steps) (now (ports .exit))
-        ≡ runs (reactive instructions (now (code .entry)) (now (drivers .entry)) (now (guards .entry)) (now (modes .entry)) (now (tasks .entry))) (now (aside .entry)) before instructions 0 start (now (ports .entry))) ⌝ }
+        ≡ shown before (reaction (reactive instructions (now (code .entry)) (now (drivers .entry)) (now (guards .entry)) (now (modes .entry)) (now (tasks .entry))) (now (aside .entry)) mode pc
+        (record { ports = now (ports .entry); out = out; waiting = waiting; finished = finished }))) ⌝ }
 {
-    let mut core = start;
+    let mut core = Core {
+        pc: pc,
+        mode: mode,
+        pledged: false,
+        next: 0,
+        delay: 0,
+        out: out,
+        waiting: waiting,
+        finished: finished,
+    };
     let mut steps = 0u32;
     while steps < instructions {
         let after = step(
@@ -137,16 +151,6 @@ pub fn react<'a, 'b>(
 {
     let mut work = *ports;
     sense(words, &mut work);
-    let start = Core {
-        pc: pc,
-        mode: mode,
-        pledged: false,
-        next: 0,
-        delay: 0,
-        out: out,
-        waiting: waiting,
-        finished: finished,
-    };
     let ran = obey_all(
         instructions,
         code,
@@ -156,7 +160,11 @@ pub fn react<'a, 'b>(
         tasks,
         aside,
         &mut work,
-        start,
+        mode,
+        pc,
+        out,
+        waiting,
+        finished,
     );
     let ending = ran.ending;
     match ending {

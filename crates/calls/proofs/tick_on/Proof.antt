@@ -1,10 +1,10 @@
-use denote.Ref.{now}
-use mathlib.Core.List.{[]}
 use Rattle.calls.specs.States.{stateOf, tick-due}
-use Rattle.model.specs.Clock.{elapsed, judged}
 use Rattle.cells.specs.Instants.{early-is, due-is, missed-is}
 use Rattle.machine.specs.Calls.{tick}
+use Rattle.model.specs.Clock.{elapsed, judged}
 use borrow.Author.Tests.{not-true, not-false}
+use denote.Ref.{now}
+use mathlib.Core.List.{[]}
 use mathlib.Core.Path.{sym, _∙_, refl}
 use borrow.Author.Needs.{needs}
 use Rattle.calls.proofs.tick_on.Statement.{statement}
@@ -27,6 +27,9 @@ judge-requires c κs = search needs
 enum-known-instant : tie.Need-enum-known-instant
 enum-known-instant c = search needs
 
+idle-requires : tie.Need-idle-requires
+idle-requires c κs = search needs
+
 enum-told : tie.Need-enum-told
 enum-told c = search needs
 
@@ -38,7 +41,8 @@ enum-told-2 c = search needs
 
 returns-3 : tie.Need-returns-3
 unfolding tick
-returns-3 c = let a = c .before .before .before .before .before .before .before .before .before .before .before .before .before .before .before .args in rw (c .before .before .before .before .before .before .if1 .left, sym (c .before .before .before .before .before .fits2 .ensures) ∙ not-false _ (c .before .before .before .before .if2 .left), early-is (judged (elapsed (a .at .clock) (a .count)) (a .at .remaining)) _ (sym (c .before .before .before .judge .ensures) ∙ c .before .instant .given .1)) refl
+returns-3 c = let a = c .before .before .before .before .before .before .before .before .before .before .before .before .before .before .before .before .args in c .idle .ensures _ _
+    ∙ rw (c .before .before .before .before .before .before .before .if1 .left, sym (c .before .before .before .before .before .before .fits2 .ensures) ∙ not-false _ (c .before .before .before .before .before .if2 .left), early-is (judged (elapsed (a .at .clock) (a .count)) (a .at .remaining)) _ (sym (c .before .before .before .before .judge .ensures) ∙ c .before .before .instant .given .1)) refl
 
 returns-4 : tie.Need-returns-4
 returns-4 c = let a = c .before .before .before .before .before .before .before .before .before .before .before .before .before .before .before .before .args in c .react-on .ensures
@@ -58,6 +62,7 @@ tick-on-spec =
     returns-2
     judge-requires
     enum-known-instant
+    idle-requires
     enum-told
     react-on-requires
     enum-told-2

@@ -1,23 +1,25 @@
-use denote.Ref.{now}
-use Rattle.react.specs.Runs.{runs, goes-on, ends, over}
+use Rattle.react.specs.Runs.{shown, runs, whole-run, goes-on, ends, over}
 use Rattle.steps.specs.Rows.{reactive}
+use Rattle.guards.specs.Tabs.{length-tab}
+use Rattle.machine.specs.Store.{reaction}
+use denote.Ref.{now}
 use native.Mathlib.Nat.{sub-zero}
 use mathlib.Core.List.{List}
-use mathlib.Core.Path.{_≡_, refl}
+use mathlib.Core.Path.{_≡_, sym}
 use Prim.Native.Nat.{ℕ, _-_, _≤_}
 use borrow.Author.Needs.{needs}
 use Rattle.react.proofs.obey_all.Statement.{statement}
 use Rattle.react.proofs.obey_all.Tie as tie
 
 abbrev Inv-loop : tie.InvT-loop
-Inv-loop instructions code drivers guards modes tasks aside ports₀ core₀ steps₀ ports core steps = (steps ≤ instructions)
-    × ((before : List ℕ) → runs (reactive instructions code drivers guards modes tasks) aside before instructions 0 core₀ ports₀ ≡ runs (reactive instructions code drivers guards modes tasks) aside before (instructions - steps) steps core ports)
+Inv-loop instructions code drivers guards modes tasks aside ports₀ mode pc out waiting finished core₀ steps₀ ports core steps = (steps ≤ instructions)
+    × ((before : List ℕ) → shown before (reaction (reactive instructions code drivers guards modes tasks) aside mode pc (record { ports = ports₀; out = out; waiting = waiting; finished = finished })) ≡ runs (reactive instructions code drivers guards modes tasks) aside before (instructions - steps) steps core ports)
 
 abbrev μ-loop : tie.MeasureT-loop
-μ-loop instructions code drivers guards modes tasks aside ports₀ core₀ steps₀ ports core steps = instructions - steps
+μ-loop instructions code drivers guards modes tasks aside ports₀ mode pc out waiting finished core₀ steps₀ ports core steps = instructions - steps
 
 loop-holds : tie.Need-loop-holds Inv-loop μ-loop
-loop-holds c = (search needs, λ before. rw sub-zero refl)
+loop-holds c = (search needs, λ before. let a = c .before .before .before .before .before .before .args in rw sub-zero (sym (whole-run (reactive (a .instructions) (now (a .code)) (now (a .drivers)) (now (a .guards)) (now (a .modes)) (now (a .tasks))) _ before _ _ _ _ (length-tab _ _))))
 
 step-requires : tie.Need-step-requires Inv-loop μ-loop
 step-requires c κs = search needs

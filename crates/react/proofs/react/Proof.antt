@@ -1,8 +1,4 @@
-use Rattle.react.specs.Runs.{whole-run}
-use Rattle.steps.specs.Rows.{reactive}
-use Rattle.guards.specs.Tabs.{length-tab}
 use denote.Ref.{now}
-use mathlib.Core.Path.{_∙_}
 use borrow.Author.Needs.{needs}
 use Rattle.react.proofs.react.Statement.{statement}
 use Rattle.react.proofs.react.Tie as tie
@@ -23,13 +19,13 @@ enum-known-ending-3 : tie.Need-enum-known-ending-3
 enum-known-ending-3 c = search needs
 
 returns : tie.Need-returns
-returns c = let a = c .before .before .before .before .before .before .before .before .before .before .before .before .before .before .before .args in rw (← (c .before .before .before .before .before .before .sense .ensures)) ((rw (c .before .ending .given .1) at (c .before .before .before .obey-all .ensures (now (a .ports)))) ∙ whole-run (reactive (a .instructions) (now (a .code)) (now (a .drivers)) (now (a .guards)) (now (a .modes)) (now (a .tasks))) (now (a .aside)) (now (a .ports)) (a .instructions) _ _ _ (length-tab _ _))
+returns c = rw (← (c .before .before .before .before .before .before .sense .ensures)) (rw (c .before .ending .given .1) at (c .before .before .before .obey-all .ensures (now (c .before .before .before .before .before .before .before .before .before .before .before .before .before .before .before .args .ports))))
 
 returns-2 : tie.Need-returns-2
-returns-2 c = let a = c .before .before .before .before .before .before .before .before .before .before .before .before .before .before .before .args in rw (← (c .before .before .before .before .before .before .sense .ensures)) ((rw (c .before .ending2 .given .1) at (c .before .before .before .obey-all .ensures (now (a .ports)))) ∙ whole-run (reactive (a .instructions) (now (a .code)) (now (a .drivers)) (now (a .guards)) (now (a .modes)) (now (a .tasks))) (now (a .aside)) (now (a .ports)) (a .instructions) _ _ _ (length-tab _ _))
+returns-2 c = rw (← (c .before .before .before .before .before .before .sense .ensures)) (rw (c .before .ending2 .given .1) at (c .before .before .before .obey-all .ensures (now (c .before .before .before .before .before .before .before .before .before .before .before .before .before .before .before .args .ports))))
 
 returns-3 : tie.Need-returns-3
-returns-3 c = let a = c .before .before .before .before .before .before .before .before .before .before .before .before .before .before .before .args in rw (← (c .before .before .before .before .before .before .sense .ensures)) ((rw (c .before .ending3 .given .1) at (c .before .before .before .obey-all .ensures (now (a .ports)))) ∙ whole-run (reactive (a .instructions) (now (a .code)) (now (a .drivers)) (now (a .guards)) (now (a .modes)) (now (a .tasks))) (now (a .aside)) (now (a .ports)) (a .instructions) _ _ _ (length-tab _ _))
+returns-3 c = rw (← (c .before .before .before .before .before .before .sense .ensures)) (rw (c .before .ending3 .given .1) at (c .before .before .before .obey-all .ensures (now (c .before .before .before .before .before .before .before .before .before .before .before .before .before .before .before .args .ports))))
 
 pub react-spec : {M : Type 1} → statement M
 react-spec =
