@@ -13,8 +13,8 @@ use Rattle.timing.specs.Slots.{Span, slotsFrom, spans, anyOf, sooner, nextOn}
 use Rattle.timing.specs.SlotLaws.{or-elim, or-left, or-right}
 use Rattle.timing.specs.SlotFits.{Divides, next-by-division}
 use Rattle.emit.specs.Lines.{edgeOf}
-use Rattle.emit.specs.declared.activities.Kind.{Kind}
-use Rattle.emit.specs.declared.activities.Kind.the-variants.{Termination, Update, Switch, Release}
+use Rattle.emit.specs.declared.Kind.{Kind}
+use Rattle.emit.specs.declared.Kind.the-variants.{Termination, Update, Switch, Release}
 
 -- ---- the edge of a slot at time t: its number
 

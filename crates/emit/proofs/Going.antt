@@ -13,7 +13,7 @@ use Rattle.timing.specs.Code.{Driven, Piece, _⊕_, fixed, guarded, pieces, dri
 use Rattle.emit.specs.Rows.{guardBy, actBy, actsBy}
 use Rattle.emit.specs.Emitted.{Out, emitted, Emitted}
 use Rattle.emit.specs.Lines.{bodyOf, bodyIn, guardFor, seenAs, edgeOf, dueAt, lines, line}
-use Rattle.emit.specs.declared.activities.Kind.{Kind}
+use Rattle.emit.specs.declared.Kind.{Kind}
 use Rattle.emit.proofs.Emission.{emitted-then, emitted-same, emitted-none, called, nothing}
 
 -- ---- one activity

@@ -2,6 +2,6 @@ pub mod Divided
 pub mod Arms
 pub mod Emission
 pub mod Going
-pub mod Parts
+pub mod Blocks
 pub mod Instants
 pub mod Modes

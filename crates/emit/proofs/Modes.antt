@@ -13,9 +13,9 @@ use Rattle.timing.specs.Code.{Piece, _⊕_, modeCode, modeDriverCount, codeFrom
 use Rattle.emit.specs.Rows.{modeBy, modesFrom, modesBy, codeBy, beginsBy, placeIn, instructionCells, Generated}
 use Rattle.emit.specs.Emitted.{Out, out, emitted, Emitted}
 use Rattle.emit.specs.Frames.{modeIn, frameBy}
-use Rattle.emit.specs.declared.blocks.Frame.{Frame}
+use Rattle.emit.specs.declared.Frame.{Frame}
 use Rattle.emit.proofs.Emission.{emitted-then, emitted-pc, emitted-none, emitted-cells}
-use Rattle.emit.proofs.Parts.{drivers-are}
+use Rattle.emit.proofs.Blocks.{drivers-are}
 
 -- What is left: `left` modes from the k-th on, whose first driver this is.
 pub record Coming (modes acts : List ℕ) (goal : Out) (places : List ℕ) (k left driver : ℕ) (z : Out) (begins : List ℕ) : Type 0 where

@@ -1,9 +1,6 @@
 pub mod Rows
 pub mod Alike
 pub mod Erased
-pub mod Held
-pub mod Fitting
-pub mod Cases
 pub mod Emitted
 pub mod Lines
 pub mod Frames

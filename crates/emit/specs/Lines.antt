@@ -7,8 +7,8 @@ use Rattle.model.specs.Modules.{Act}
 use Rattle.model.specs.Instructions.{Instr, call, release, switch}
 use Rattle.timing.specs.Slots.{Span, spans, anyOf, spanEnds, spanBegins, keep}
 use Rattle.timing.specs.Code.{Driven, drivenFrom, Piece, fixed, guarded, pieces}
-use Rattle.emit.specs.declared.activities.Kind.{Kind}
-use Rattle.emit.specs.declared.activities.Kind.the-variants.{Termination, Update, Switch, Release}
+use Rattle.emit.specs.declared.Kind.{Kind}
+use Rattle.emit.specs.declared.Kind.the-variants.{Termination, Update, Switch, Release}
 
 -- A termination calls its task's driver, an update its own. A release is call, release.
 abbrev pub bodyOf : Kind → ℕ → ℕ → List Instr
