@@ -13,6 +13,7 @@ use Rattle.codec.specs.Readings.{Reading, got, no}
 pub record Bytes (bs : List ℕ) : Type 0 where
   pub below : (i : ℕ) → getD bs i 0 < 256
 
+-- how values of a kind are written and read, with both laws
 pub record Codec (A : Type 0) : Type 0 where
   pub put : A → List ℕ  -- the bytes of a value
   pub get : List ℕ → Reading A  -- what stands at the front of some bytes

@@ -15,6 +15,7 @@ use Rattle.codec.specs.Codecs.{Codec, Bytes, Bounded, no-bytes, bytes-bo
 
 -- ---- one byte
 
+-- a byte is read; 22 where none is left
 unfoldable pub byteGet : List ℕ → Reading ℕ
 byteGet [] = no 22
 byteGet (b ∷ rest) = got b rest
@@ -33,6 +34,7 @@ byte-whole n h = record { below = go }
     go zero = ltb-true n 256 h
     go (suc i) = omega arith
 
+-- one byte
 unfoldable pub byte : Codec ℕ
 unfolding byteGet
 byte = record { put = λ n. n ∷ []; get = byteGet; ok = λ n. ltb n 256; there = λ a r h. refl; whole = byte-whole; back = byte-back }
@@ -61,10 +63,12 @@ byte-missing s at h = go (drop at s) (omega (arith, length-drop at s))
 
 -- ---- a number of k bytes
 
+-- a number's bytes, the highest first
 abbrev pub bePut : ℕ → ℕ → List ℕ
 bePut zero n = []
 bePut (suc k) n = (n / 256 ^ k) ∷ bePut k (n % 256 ^ k)
 
+-- a number is read from its bytes, the highest first
 abbrev pub beGet : ℕ → List ℕ → Reading ℕ
 beGet zero bs = got 0 bs
 beGet (suc k) bs = andThen (byteGet bs) (λ high r. andThen (beGet k r) (λ low s. got (high * 256 ^ k + low) s))
@@ -101,6 +105,7 @@ be-whole (suc k) n h =
     bytes-both (byte-whole (n / 256 ^ k) (lt-ltb _ _ (div-lt-iff-lt-mul (pow-pos k) .1 (rw (← pow-succ') h))))
     (be-whole k (n % 256 ^ k) (mod-lt n (pow-pos k)))
 
+-- a number of k bytes, the highest first
 unfoldable pub be : ℕ → Codec ℕ
 be k =
     record {

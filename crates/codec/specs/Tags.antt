@@ -11,6 +11,7 @@ use Rattle.codec.specs.Readings.{got, no}
 use Rattle.codec.specs.Codecs.{Codec, Bounded}
 use Rattle.codec.specs.Views.{view, viewGet, view-bounded, whenTrue}
 
+-- the first that is there
 abbrev pub orElse : {A : Type 0} → Option A → Option A → Option A
 orElse (some a) o = some a
 orElse none o = o

@@ -10,12 +10,15 @@ use Rattle.codec.specs.Codecs.{Codec, Bytes, Bounded, and-left, and-righ
 
 -- ---- B stands as A; where what stands is no B, the refusal is e
 
+-- a value is written as the part that stands for it
 unfoldable pub viewPut : {A B : Type 0} → Codec A → (B → A) → B → List ℕ
 viewPut c to b = c .put (to b)
 
+-- a part is read and turned into its value; a refusal where it stands for none
 unfoldable pub viewGet : {A B : Type 0} → Codec A → ℕ → (A → Option B) → List ℕ → Reading B
 viewGet c e from bs = andThen (c .get bs) (λ a r. orNo e (from a) r)
 
+-- what a view can write
 unfoldable pub viewOk : {A B : Type 0} → Codec A → (B → A) → (B → Bool) → B → Bool
 viewOk c to fit b = fit b && c .ok (to b)
 
@@ -53,6 +56,7 @@ module _ {A B : Type 0} (c : Codec A) (e : ℕ) (to : B → A) (from : A → Opt
 
 -- ---- a part that must pass a test, or the refusal is e
 
+-- a value where a test holds
 abbrev pub whenTrue : {A : Type 0} → Bool → A → Option A
 whenTrue true a = some a
 whenTrue false a = none

@@ -6,10 +6,10 @@ use mathlib.Core.List.{List, [], _∷_}
 use lib.ListN.{length}
 use types.Run.{OneOf, miss}
 use denote.Enum.Declared.{tagOf}
-use Rattle.emit.proofs.Kind.{the-type}
+use Rattle.emit.proofs.activities.Kind.{the-type}
 use Rattle.emit.specs.Lines.{bodyOf, guardFor}
-use Rattle.emit.specs.declared.Kind.{Kind}
-use Rattle.emit.specs.declared.Kind.the-variants.{Termination, Update, Switch, Release}
+use Rattle.emit.specs.declared.activities.Kind.{Kind}
+use Rattle.emit.specs.declared.activities.Kind.the-variants.{Termination, Update, Switch, Release}
 use Rattle.emit.proofs.Divided.{offset}
 
 -- the numbers of all kinds but a release, and of all but a termination

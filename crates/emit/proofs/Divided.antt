@@ -1,20 +1,19 @@
 -- Slots of one length, counted by division; for any length and frequency.
 use Prim.Native.Nat.{ℕ, zero, suc, _+_, _-_, _*_, _/_, _%_, min, _≤_, _<_}
 use native.Mathlib.Omega.{arith}
-use native.Mathlib.Nat.{mul-le-mul-right, mul-lt-mul-of-pos-right, lt-of-mul-lt-mul-right, mul-div-cancel, mul-mod-left, div-add-mod', lt-div-mul-add, add-mul, one-mul, mul-comm, mul-zero, div-zero, add-zero, div-le-self}
-use mathlib.Core.Path.{_≡_, refl, sym, _∙_, ap, subst}
-use mathlib.Core.Bool.{Bool, true, false, cond}
+use native.Mathlib.Nat.{mul-le-mul-right, mul-lt-mul-of-pos-right, mul-div-cancel, mul-mod-left, div-add-mod', lt-div-mul-add, add-mul, one-mul, mul-comm, mul-zero, div-zero, add-zero}
+use mathlib.Core.Path.{_≡_, refl, sym, _∙_, ap}
+use mathlib.Core.Bool.{Bool, true, false}
 use mathlib.Core.Option.{none}
-use mathlib.Core.List.{List, [], _∷_}
 use lib.Dec.{eqb, leb, ltb}
-use borrow.Author.Tests.{eqb-true, eqb-false, eq-eqb, lt-ltb, le-ltb, le-leb, lt-leb, ltb-true, ltb-false, leb-true, leb-false}
+use borrow.Author.Tests.{eqb-true, eqb-false, eq-eqb, le-ltb, ltb-true, ltb-false, leb-true, leb-false}
 use Rattle.model.specs.Modules.{Act}
 use Rattle.timing.specs.Slots.{Span, slotsFrom, spans, anyOf, sooner, nextOn}
 use Rattle.timing.specs.SlotLaws.{or-elim, or-left, or-right}
 use Rattle.timing.specs.SlotFits.{Divides, next-by-division}
 use Rattle.emit.specs.Lines.{edgeOf}
-use Rattle.emit.specs.declared.Kind.{Kind}
-use Rattle.emit.specs.declared.Kind.the-variants.{Termination, Update, Switch, Release}
+use Rattle.emit.specs.declared.activities.Kind.{Kind}
+use Rattle.emit.specs.declared.activities.Kind.the-variants.{Termination, Update, Switch, Release}
 
 -- ---- the edge of a slot at time t: its number
 

@@ -3,11 +3,11 @@ use Prim.Native.Nat.{ℕ, zero, suc, _+_, _-_, _*_, _≤_, _<_}
 use native.Mathlib.Omega.{arith}
 use native.Mathlib.Numerals.{add-one, add-two}
 use native.Mathlib.Nat.{add-zero}
-use mathlib.Core.Path.{_≡_, refl, sym, _∙_, ap, subst}
-use mathlib.Core.Bool.{Bool, true, false, cond}
-use mathlib.Core.Option.{Option, none, some}
+use mathlib.Core.Path.{_≡_, refl, sym, _∙_, ap}
+use mathlib.Core.Bool.{Bool, true, false}
+use mathlib.Core.Option.{some}
 use mathlib.Core.List.{List, [], _∷_, _++_}
-use lib.ListN.{length, set, take, length-append}
+use lib.ListN.{length, set, take}
 use lib.Seq.{sets}
 use lib.Dec.{ltb}
 use borrow.Author.Tests.{lt-ltb, le-ltb, ltb-true, ltb-false}

@@ -1,19 +1,18 @@
 -- A walk over the activities of a kind: what is still to come.
-use Prim.Native.Nat.{ℕ, zero, suc, _+_, _-_, _*_, _/_, _≤_, _<_}
+use Prim.Native.Nat.{ℕ, suc, _+_, _-_, _*_, _/_, _≤_, _<_}
 use native.Mathlib.Omega.{arith}
 use native.Mathlib.Nat.{add-zero}
-use mathlib.Core.Path.{_≡_, refl, sym, _∙_, ap, subst}
+use mathlib.Core.Path.{_≡_, refl, sym, _∙_, ap}
 use mathlib.Core.Bool.{Bool, true, false, cond}
 use mathlib.Core.List.{List, [], _∷_, map}
 use lib.ListN.{getD}
 use Rattle.model.specs.Modules.{Act}
-use Rattle.model.specs.Instructions.{Instr}
 use Rattle.timing.specs.Slots.{spans, slotsFrom, anyOf, keep, nextOn, soonest}
-use Rattle.timing.specs.Code.{Driven, Piece, _⊕_, fixed, guarded, pieces, drivenFrom}
+use Rattle.timing.specs.Code.{Driven, _⊕_, fixed, guarded, pieces, drivenFrom}
 use Rattle.emit.specs.Rows.{guardBy, actBy, actsBy}
 use Rattle.emit.specs.Emitted.{Out, emitted, Emitted}
 use Rattle.emit.specs.Lines.{bodyOf, bodyIn, guardFor, seenAs, edgeOf, dueAt, lines, line}
-use Rattle.emit.specs.declared.Kind.{Kind}
+use Rattle.emit.specs.declared.activities.Kind.{Kind}
 use Rattle.emit.proofs.Emission.{emitted-then, emitted-same, emitted-none, called, nothing}
 
 -- ---- one activity

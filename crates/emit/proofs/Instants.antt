@@ -1,16 +1,16 @@
 -- The blocks of a mode, instant after instant: what is still to come.
-use Prim.Native.Nat.{ℕ, zero, suc, _+_, _-_, _*_, _≤_, _<_}
+use Prim.Native.Nat.{ℕ, zero, suc, _+_, _-_, _≤_, _<_}
 use native.Mathlib.Omega.{arith}
-use mathlib.Core.Path.{_≡_, refl, sym, _∙_, ap, subst}
+use mathlib.Core.Path.{_≡_, refl, sym, _∙_, ap}
 use mathlib.Core.List.{List, [], _∷_}
 use Rattle.model.specs.Modules.{Mode}
 use Rattle.model.specs.Instructions.{jump}
 use Rattle.file.specs.Code.{noArgument}
 use Rattle.timing.specs.Rules.{nextInstant}
-use Rattle.timing.specs.Code.{Piece, _⊕_, fixed, front, back, firstOr, instantsFrom, instantsOf, laterBlocks, modeCode}
+use Rattle.timing.specs.Code.{_⊕_, fixed, front, back, firstOr, instantsFrom, instantsOf, laterBlocks, modeCode}
 use Rattle.timing.specs.InstantLaws.{next-le, next-after, first-instant, instants-cons}
 use Rattle.emit.specs.Emitted.{Out, emitted, Stored, Emitted}
-use Rattle.emit.proofs.Emission.{emitted-then, called, renamed, follows, single}
+use Rattle.emit.proofs.Emission.{emitted-then, renamed, follows, single}
 
 -- the first instant, also of a mode that does not last
 first-is : (m : Mode) → firstOr (m .period) (instantsFrom (m .period) m 0) ≡ nextInstant m 0

@@ -2,6 +2,6 @@ pub mod Divided
 pub mod Arms
 pub mod Emission
 pub mod Going
-pub mod Blocks
+pub mod Parts
 pub mod Instants
 pub mod Modes

@@ -1,21 +1,20 @@
 -- The code of the modes, one behind the other: what is still to come, and what it is in the end.
-use Prim.Native.Nat.{ℕ, zero, suc, _+_, _-_, _*_, min, _≤_, _<_}
+use Prim.Native.Nat.{ℕ, suc, _+_, _-_, min, _≤_, _<_}
 use native.Mathlib.Omega.{arith}
 use native.Mathlib.Nat.{zero-add}
-use mathlib.Core.Path.{_≡_, refl, sym, _∙_, ap, subst}
-use mathlib.Core.List.{List, [], _∷_, map}
-use lib.ListN.{length, set, getD}
+use mathlib.Core.Path.{_≡_, refl, sym, _∙_, ap}
+use mathlib.Core.List.{List, map}
+use lib.ListN.{length, set}
 use lib.Seq.{sets}
 use native.Mathlib.Numerals.{add-one}
-use Rattle.model.specs.Rooms.{taskRoom, modeRoom, codeRoom}
-use Rattle.model.specs.Modules.{Mode, each}
-use Rattle.timing.specs.Code.{Piece, _⊕_, modeCode, modeDriverCount, codeFrom, beginsFrom}
-use Rattle.emit.specs.Rows.{modeBy, modesFrom, modesBy, codeBy, beginsBy, placeIn, instructionCells, Generated}
+use Rattle.model.specs.Rooms.{taskRoom, modeRoom}
+use Rattle.timing.specs.Code.{_⊕_, modeCode, modeDriverCount, codeFrom, beginsFrom}
+use Rattle.emit.specs.Rows.{modeBy, modesFrom, modesBy, codeBy, placeIn, Generated}
 use Rattle.emit.specs.Emitted.{Out, out, emitted, Emitted}
 use Rattle.emit.specs.Frames.{modeIn, frameBy}
-use Rattle.emit.specs.declared.Frame.{Frame}
+use Rattle.emit.specs.declared.blocks.Frame.{Frame}
 use Rattle.emit.proofs.Emission.{emitted-then, emitted-pc, emitted-none, emitted-cells}
-use Rattle.emit.proofs.Blocks.{drivers-are}
+use Rattle.emit.proofs.Parts.{drivers-are}
 
 -- What is left: `left` modes from the k-th on, whose first driver this is.
 pub record Coming (modes acts : List ℕ) (goal : Out) (places : List ℕ) (k left driver : ℕ) (z : Out) (begins : List ℕ) : Type 0 where

@@ -1,14 +1,14 @@
 -- Activities with the same frequencies and guards that do alike: they have the same instants and the same code.
-use Prim.Native.Nat.{ℕ, zero, suc, _+_, _/_}
-use mathlib.Core.Path.{_≡_, refl, sym, _∙_, ap, fun-ext}
+use Prim.Native.Nat.{ℕ, _+_}
+use mathlib.Core.Path.{_≡_, refl, _∙_, ap, fun-ext}
 use mathlib.Core.Bool.{Bool, true, false, cond}
-use mathlib.Core.Option.{Option, none, some}
+use mathlib.Core.Option.{none}
 use mathlib.Core.List.{List, [], _∷_, _++_, map}
 use lib.ListN.{length}
 use Rattle.model.specs.Modules.{Act, Call}
 use Rattle.model.specs.Instructions.{Instr, call}
-use Rattle.timing.specs.Slots.{Span, spans, slotsFrom, anyOf, keep, nextOn, soonest}
-use Rattle.timing.specs.Code.{Driven, drivenFrom, Piece, guarded, pieces, terminating}
+use Rattle.timing.specs.Slots.{Span, spans, anyOf, keep, nextOn, soonest}
+use Rattle.timing.specs.Code.{drivenFrom, guarded, pieces, terminating}
 use Rattle.emit.specs.Rows.{mapAct}
 
 pub data Alike {A B : Type 0} (R : A → B → Type 0) : List (Act A) → List (Act B) → Type 0 where

@@ -7,11 +7,11 @@ use mathlib.Core.List.{List, [], _∷_, map}
 use lib.ListN.{length, length-map}
 use lib.Dec.{ltb}
 use Rattle.model.specs.Rooms.{taskRoom}
-use Rattle.model.specs.Modules.{Act, Call, Update, Mode, Module}
-use Rattle.model.specs.Instructions.{Instr, call}
-use Rattle.timing.specs.Slots.{Span, spanEnds, spanBegins, spans, soonest, closing, opening}
+use Rattle.model.specs.Modules.{Call, Update, Mode, Module}
+use Rattle.model.specs.Instructions.{call}
+use Rattle.timing.specs.Slots.{spanEnds, spanBegins, closing, opening}
 use Rattle.timing.specs.Rules.{nextInstant}
-use Rattle.timing.specs.Code.{Driven, drivenFrom, Piece, pieces, terminating, updating, releasing, front, back, instantsFrom, instantsOf, firstOr, laterBlocks, modeCode, modeDriverCount, codeFrom, beginsFrom, codeOf, beginsOf}
+use Rattle.timing.specs.Code.{drivenFrom, Piece, pieces, terminating, updating, releasing, front, back, instantsFrom, instantsOf, firstOr, laterBlocks, modeCode, modeDriverCount, codeFrom, beginsFrom, codeOf, beginsOf}
 use Rattle.emit.specs.Rows.{mapAct, callOf, updateOf, modesBy, codeBy, beginsBy}
 use Rattle.emit.specs.Alike.{Alike, alike-from, alike-driven, alike-soonest, alike-pieces, alike-unguarded, ending, terminations}
 

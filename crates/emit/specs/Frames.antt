@@ -5,7 +5,7 @@ use lib.ListN.{getD}
 use Rattle.model.specs.Rooms.{activityRoom}
 use Rattle.model.specs.Modules.{Mode}
 use Rattle.emit.specs.Rows.{modeOf, within}
-use Rattle.emit.specs.declared.Frame.{Frame}
+use Rattle.emit.specs.declared.blocks.Frame.{Frame}
 
 abbrev pub modeIn : List ℕ → Frame → Mode
 modeIn acts m = modeOf acts (m .period) (m .calls) (m .updates) (m .switches) (m .row)

@@ -1,6 +1,9 @@
 pub mod Rows
 pub mod Alike
 pub mod Erased
+pub mod Held
+pub mod GeneratedLaws
+pub mod Cases
 pub mod Emitted
 pub mod Lines
 pub mod Frames

@@ -1,14 +1,14 @@
 -- The activities of a kind at one instant: what each puts into the code.
-use Prim.Native.Nat.{ℕ, zero, suc, _+_}
+use Prim.Native.Nat.{ℕ}
 use mathlib.Core.Bool.{Bool, cond}
-use mathlib.Core.Option.{Option, none, some}
+use mathlib.Core.Option.{Option, none}
 use mathlib.Core.List.{List, [], _∷_, map}
 use Rattle.model.specs.Modules.{Act}
 use Rattle.model.specs.Instructions.{Instr, call, release, switch}
 use Rattle.timing.specs.Slots.{Span, spans, anyOf, spanEnds, spanBegins, keep}
 use Rattle.timing.specs.Code.{Driven, drivenFrom, Piece, fixed, guarded, pieces}
-use Rattle.emit.specs.declared.Kind.{Kind}
-use Rattle.emit.specs.declared.Kind.the-variants.{Termination, Update, Switch, Release}
+use Rattle.emit.specs.declared.activities.Kind.{Kind}
+use Rattle.emit.specs.declared.activities.Kind.the-variants.{Termination, Update, Switch, Release}
 
 -- A termination calls its task's driver, an update its own. A release is call, release.
 abbrev pub bodyOf : Kind → ℕ → ℕ → List Instr

@@ -23,14 +23,17 @@ use Rattle.file.specs.Names.{name}
 
 -- ---- drivers (3 source port, actuator port; 4 task, count, source ports; 5 task; numbers two bytes)
 
+-- the kinds of drivers
 pub data DriverTag : Type 0 where
   updating releasing terminating : DriverTag
 
+-- a driver kind's number: 3 actuator update, 4 release, 5 termination
 abbrev pub driverTag : DriverTag → ℕ
 driverTag updating = 3
 driverTag releasing = 4
 driverTag terminating = 5
 
+-- every kind of driver
 abbrev pub driverTags : List DriverTag
 driverTags = updating ∷ releasing ∷ terminating ∷ []
 
@@ -39,21 +42,25 @@ driver-known updating = refl
 driver-known releasing = refl
 driver-known terminating = refl
 
+-- what stands behind a driver's kind
 abbrev pub DriverRest : DriverTag → Type 0
 DriverRest updating = ℕ × ℕ
 DriverRest releasing = ℕ × List ℕ
 DriverRest terminating = ℕ
 
+-- how it is written: ports, or the task and its sources
 unfoldable pub driverRest : (tag : DriverTag) → Codec (DriverRest tag)
 driverRest updating = dep (be 2) (λ p. ℕ) (λ p. be 2)
 driverRest releasing = dep (be 2) (λ t. List ℕ) (λ t. list (count 1 portRoom) (be 2))
 driverRest terminating = be 2
 
+-- a driver as its kind and the rest
 abbrev pub driverParts : Driver → (tag : DriverTag) × DriverRest tag
 driverParts (updates source target) = (updating, (source, target))
 driverParts (releases t sources) = (releasing, (t, sources))
 driverParts (terminates t) = (terminating, t)
 
+-- a driver from its kind and the rest
 abbrev pub driverOf : (tag : DriverTag) → DriverRest tag → Driver
 driverOf updating x = updates (x .0) (x .1)
 driverOf releasing x = releases (x .0) (x .1)
@@ -69,23 +76,28 @@ driver-two updating x = refl
 driver-two releasing x = refl
 driver-two terminating x = refl
 
+-- a driver
 unfoldable pub driver : Codec Driver
 driver =
     shape (dep (enum byte 23 driverTag driverTags driver-known) DriverRest driverRest)
     driverParts (λ x. driverOf (x .0) (x .1)) driver-one (λ x h. driver-two (x .0) (x .1))
 
+-- the drivers, with their count before them
 unfoldable pub drivers : Codec (List Driver)
 drivers = list (count 2 driverRoom) driver
 
 -- ---- guards (function, count, arguments: 0 port, or 1 type and value)
 
+-- the kinds of a guard's arguments
 pub data ArgumentTag : Type 0 where
   ofPort ofValue : ArgumentTag
 
+-- an argument kind's number: 0 a port, 1 a value
 abbrev pub argumentTag : ArgumentTag → ℕ
 argumentTag ofPort = 0
 argumentTag ofValue = 1
 
+-- both kinds of arguments
 abbrev pub argumentTags : List ArgumentTag
 argumentTags = ofPort ∷ ofValue ∷ []
 
@@ -93,18 +105,22 @@ pub argument-known : (tag : ArgumentTag) → numbered argumentTag argumentTags (
 argument-known ofPort = refl
 argument-known ofValue = refl
 
+-- what stands behind an argument's kind
 abbrev pub ArgumentRest : ArgumentTag → Type 0
 ArgumentRest ofPort = ℕ
 ArgumentRest ofValue = ℕ × ℕ
 
+-- how it is written: the port, or type and value
 unfoldable pub argumentRest : (tag : ArgumentTag) → Codec (ArgumentRest tag)
 argumentRest ofPort = be 2
 argumentRest ofValue = dep type (λ t. ℕ) value
 
+-- an argument as its kind and the rest
 abbrev pub argumentParts : Argument → (tag : ArgumentTag) × ArgumentRest tag
 argumentParts (port p) = (ofPort, p)
 argumentParts (fixed t word) = (ofValue, (t, word))
 
+-- an argument from its kind and the rest
 abbrev pub argumentOf : (tag : ArgumentTag) → ArgumentRest tag → Argument
 argumentOf ofPort p = port p
 argumentOf ofValue x = fixed (x .0) (x .1)
@@ -117,16 +133,19 @@ pub argument-two : (tag : ArgumentTag) (x : ArgumentRest tag) → _≡_ {A = (ta
 argument-two ofPort p = refl
 argument-two ofValue x = refl
 
+-- an argument
 unfoldable pub argument : Codec Argument
 argument =
     shape (dep (enum byte 23 argumentTag argumentTags argument-known) ArgumentRest argumentRest)
     argumentParts (λ x. argumentOf (x .0) (x .1)) argument-one (λ x h. argument-two (x .0) (x .1))
 
+-- a guard: its function's name and its arguments
 unfoldable pub guard : Codec GuardRow
 guard =
     shape (dep name (λ f. List Argument) (λ f. list (count 1 argumentRoom) argument))
     (λ g. (g .function, g .arguments)) (λ x. record { function = x .0; arguments = x .1 }) (λ g. refl) (λ x h. refl)
 
+-- the guards, with their count before them
 unfoldable pub guards : Codec (List GuardRow)
 guards = list (count 2 guardRoom) guard
 
@@ -155,6 +174,7 @@ pub data Form : Type 0 where
 abbrev pub noArgument : ℕ
 noArgument = 4294967295
 
+-- whether a number is right for an instruction's argument of this form
 abbrev pub fitsForm : Form → ℕ → Bool
 fitsForm free n = true
 fitsForm marker n = leb n 2
@@ -166,6 +186,7 @@ abbrev pub forms : List (Form × Form)
 forms =
     (marker, unused) ∷ (free, delay) ∷ (free, unused) ∷ (free, unused) ∷ (free, free) ∷ (free, unused) ∷ (unused, unused) ∷ (free, unused) ∷ []
 
+-- the forms of an opcode's two arguments
 abbrev pub formsOf : ℕ → Form × Form
 formsOf opcode = getD forms opcode (unused, unused)
 
@@ -179,6 +200,7 @@ triple =
     dep (check byte 23 (λ opcode. ltb opcode 8)) (λ opcode. ℕ × ℕ)
     (λ opcode. dep (word (formsOf opcode .0)) (λ first. ℕ) (λ first. word (formsOf opcode .1)))
 
+-- an instruction as opcode and two arguments
 abbrev pub tripleOf : Instr → ℕ × (ℕ × ℕ)
 tripleOf (nop m) = (0, (m, noArgument))
 tripleOf (future pc d) = (1, (pc, d))
@@ -189,6 +211,7 @@ tripleOf (jump pc) = (5, (pc, noArgument))
 tripleOf return = (6, (noArgument, noArgument))
 tripleOf (switch m) = (7, (m, noArgument))
 
+-- the instruction of an opcode and two arguments
 abbrev pub instrBy : ℕ → ℕ → ℕ → Instr
 instrBy opcode first second =
     getD (nop first ∷ future first second ∷ call first ∷ release first ∷ iff first second ∷ jump first ∷ return ∷ switch first ∷ []) opcode return
@@ -225,8 +248,10 @@ instr-two x h =
     let (f, s) = dep-ok _ _ _ (x .1 .0) (x .1 .1) w in
     triple-named (x .0) (x .1 .0) (x .1 .1) (ltb-true _ _ (check-ok _ _ _ _ o .0)) (check-ok _ _ _ _ f .0) (check-ok _ _ _ _ s .0)
 
+-- an instruction
 unfoldable pub instruction : Codec Instr
 instruction = shape triple tripleOf (λ x. instrBy (x .0) (x .1 .0) (x .1 .1)) instr-one instr-two
 
+-- the code, with its count before it
 unfoldable pub code : Codec (List Instr)
 code = list (count 2 codeRoom) instruction

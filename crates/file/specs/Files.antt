@@ -41,6 +41,7 @@ table =
 unfoldable pub versionOf : Table → ℕ
 versionOf t = 1
 
+-- the versions that the reader knows
 unfoldable pub knownVersion : ℕ → Bool
 knownVersion version = eqb version 1
 
@@ -81,6 +82,7 @@ abbrev pub framed : Reading ℕ → Answer
 framed (no e) = refused 20
 framed (got n rest) = cond (eqb n (length rest)) (versioned rest) (refused 20)
 
+-- what the reader answers to any bytes: the table, or one of 20 to 24
 unfoldable pub decode : List ℕ → Answer
 decode bs = framed (be 4 .get bs)
 

@@ -18,6 +18,7 @@ unfoldable pub nameBytes : List ℕ → Bool
 nameBytes [] = false
 nameBytes (b ∷ bs) = letter b && allIn wordByte bs
 
+-- whether a word is a keyword
 unfoldable pub isKeyword : List ℕ → Bool
 isKeyword w = ltb (placeIn keywords 0 w) (length keywords)
 

@@ -14,6 +14,7 @@ use Rattle.file.specs.Code.{driverRest, driver, drivers, argumentRest, a
 use Rattle.file.specs.References.{portRoles, takes, goodDriver, functionTakes, goodGuard, goodInstruction, goodReferences}
 use Rattle.file.specs.Files.{table, versionOf, knownVersion, tableBy, body, encode, decode, sound}
 
+-- the codecs opened, for computed cases
 unfoldable pub opened : Unit {0}
 unfolding byteGet byte be dep depPut depGet depOk view viewPut viewGet viewOk check shape enum run running many list same placeIn portTypes allIn count type value keywords nameBytes isKeyword goodName name sensor sensors actuator actuators output portCount task tasks driverRest driver drivers argumentRest argument guard guards mode modes word triple instruction code portRoles takes goodDriver functionTakes goodGuard goodInstruction goodReferences table versionOf knownVersion tableBy body encode decode sound
 opened = tt

@@ -21,6 +21,7 @@ sensor =
     shape (dep name (λ n. ℕ × List ℕ) (λ n. dep type (λ t. List ℕ) (λ t. name)))
     (λ s. (s .name, (s .type, s .getter))) (λ x. record { name = x .0; type = x .1 .0; getter = x .1 .1 }) (λ s. refl) (λ x h. refl)
 
+-- the sensors, with their count before them
 unfoldable pub sensors : Codec (List Sensor)
 sensors = list (count 2 sensorRoom) sensor
 
@@ -31,6 +32,7 @@ actuator =
     (λ a. (a .name, (a .type, (a .start, a .setter))))
     (λ x. record { name = x .0; type = x .1 .0; start = x .1 .1 .0; setter = x .1 .1 .1 }) (λ a. refl) (λ x h. refl)
 
+-- the actuators, with their count before them
 unfoldable pub actuators : Codec (List Actuator)
 actuators = list (count 2 actuatorRoom) actuator
 
@@ -47,6 +49,7 @@ pub record Used : Type 0 where
   pub inputs : ℕ
   pub outputs : ℕ
 
+-- before the first task no port is used
 abbrev pub noneUsed : Used
 noneUsed = record { inputs = 0; outputs = 0 }
 
@@ -68,5 +71,6 @@ task used =
     (λ t. (t .name, (t .function, (t .inputs, t .outputs))))
     (λ x. record { name = x .0; function = x .1 .0; inputs = x .1 .1 .0; outputs = x .1 .1 .1 }) (λ t. refl) (λ x h. refl)
 
+-- the tasks, with their count before them; ports are added up from task to task
 unfoldable pub tasks : Codec (List Task)
 tasks = running task usedWith (count 2 taskRoom) noneUsed

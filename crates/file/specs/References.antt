@@ -13,21 +13,27 @@ use Rattle.file.specs.Parts.{allIn}
 
 -- ---- ports: what each is, by number; 0 where there is none
 
+-- a sensor's port
 abbrev pub sensorRole : ℕ
 sensorRole = 1
 
+-- an actuator's port
 abbrev pub actuatorRole : ℕ
 actuatorRole = 2
 
+-- an input port
 abbrev pub inputRole : ℕ
 inputRole = 3
 
+-- an output port
 abbrev pub outputRole : ℕ
 outputRole = 4
 
+-- the roles of a task's ports, inputs first
 abbrev pub taskRoles : Task → List ℕ
 taskRoles t = map (λ i. inputRole) (t .inputs) ++ map (λ o. outputRole) (t .outputs)
 
+-- the roles of all ports, in the order of their numbers
 unfoldable pub portRoles : List Sensor → List Actuator → List Task → List ℕ
 portRoles sensors actuators tasks = map (λ s. sensorRole) sensors ++ (map (λ a. actuatorRole) actuators ++ each taskRoles tasks)
 
@@ -35,6 +41,7 @@ portRoles sensors actuators tasks = map (λ s. sensorRole) sensors ++ (map (λ a
 abbrev pub isSource : List ℕ → ℕ → Bool
 isSource roles p = eqb (getD roles p 0) sensorRole || eqb (getD roles p 0) outputRole
 
+-- whether a port is an actuator's
 abbrev pub isActuator : List ℕ → ℕ → Bool
 isActuator roles p = eqb (getD roles p 0) actuatorRole
 
@@ -47,6 +54,7 @@ takes roles types [] (p ∷ sources) = false
 takes roles types (wanted ∷ inputs) [] = false
 takes roles types (wanted ∷ inputs) (p ∷ sources) = (isSource roles p && eqb (getD types p 0) wanted) && takes roles types inputs sources
 
+-- whether a driver's ports and task are there, of the right role and type
 unfoldable pub goodDriver : List ℕ → List ℕ → List Task → Driver → Bool
 goodDriver roles types tasks (updates source target) = (isSource roles source && isActuator roles target) && eqb (getD types source 0) (getD types target 0)
 goodDriver roles types tasks (releases t sources) = ltb t (length tasks) && takes roles types (getD tasks t noTask .inputs) sources
@@ -54,10 +62,12 @@ goodDriver roles types tasks (terminates t) = ltb t (length tasks)
 
 -- ---- guards: isTrue(boolean), isFalse(boolean), less(int, int), equal(two of one type)
 
+-- whether an argument's port can be read
 abbrev pub goodArgument : List ℕ → Argument → Bool
 goodArgument roles (port p) = isSource roles p
 goodArgument roles (fixed type word) = true
 
+-- the type of an argument
 abbrev pub argumentType : List ℕ → Argument → ℕ
 argumentType types (port p) = getD types p 0
 argumentType types (fixed type word) = type
@@ -69,6 +79,7 @@ functionTakes f (t ∷ []) = ltb f 2 && eqb t boolean
 functionTakes f (t ∷ u ∷ []) = (eqb f 2 && (eqb t int && eqb u int)) || (eqb f 3 && eqb t u)
 functionTakes f (t ∷ u ∷ v ∷ types) = false
 
+-- whether a guard's arguments are right in number, role and type
 unfoldable pub goodGuard : List ℕ → List ℕ → GuardRow → Bool
 goodGuard roles types g =
     allIn (goodArgument roles) (g .arguments)
@@ -76,6 +87,7 @@ goodGuard roles types g =
 
 -- ---- modes and code: a pc names an instruction
 
+-- whether what an instruction refers to is there
 unfoldable pub goodInstruction : Table → Instr → Bool
 goodInstruction t (nop marker) = true
 goodInstruction t (future pc delay) = ltb pc (length (t .code))
@@ -86,6 +98,7 @@ goodInstruction t (jump pc) = ltb pc (length (t .code))
 goodInstruction t return = true
 goodInstruction t (switch mode) = ltb mode (length (t .modes))
 
+-- how many modes are marked as start mode
 abbrev pub startModes : List ModeRow → ℕ
 startModes [] = 0
 startModes (m ∷ modes) = m .start + startModes modes

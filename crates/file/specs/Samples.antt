@@ -11,21 +11,26 @@ use Rattle.file.specs.Tables.{Argument, port, fixed, GuardRow, ModeRow, 
 abbrev pub modeRow : List ℕ → ℕ → ℕ → ℕ → ModeRow
 modeRow name start period begin = record { name = name; start = start; period = period; begin = begin }
 
+-- a guard by its name and arguments
 abbrev pub guardRow : List ℕ → List Argument → GuardRow
 guardRow function arguments = record { function = function; arguments = arguments }
 
 -- ---- module M { start mode m [period = 5ms] { } }
 
+-- a table of a name, modes and code only
 unfoldable pub smallestWith : List ModeRow → List Instr → Table
 smallestWith modes code =
     record { name = bytes "M"; sensors = []; actuators = []; tasks = []; drivers = []; guards = []; modes = modes; code = code }
 
+-- a single mode
 abbrev pub oneMode : List ModeRow
 oneMode = modeRow (bytes "m") 1 5000 0 ∷ []
 
+-- the table of the smallest module
 abbrev pub smallest : Table
 smallest = smallestWith oneMode (future 2 5000 ∷ return ∷ nop 1 ∷ nop 2 ∷ jump 0 ∷ [])
 
+-- its file
 unfoldable pub smallestFile : List ℕ
 smallestFile =
     0x00 ∷ 0x00 ∷ 0x00 ∷ 0x49 ∷ 0x01
@@ -43,6 +48,7 @@ smallestFile =
 -- ports: sensors 0 int and 1 boolean; actuators 2 int and 3 boolean;
 -- the first task's inputs 4 int and 5 boolean, its outputs 6 int and 7 boolean; the second task's output 8 boolean
 
+-- a table with every kind of record
 unfoldable pub fullWith : List Driver → List GuardRow → List ModeRow → List Instr → Table
 fullWith drivers guards modes code =
     record {
@@ -66,9 +72,11 @@ fullWith drivers guards modes code =
       code = code;
     }
 
+-- each kind of driver
 abbrev pub allDrivers : List Driver
 allDrivers = terminates 0 ∷ terminates 1 ∷ updates 6 2 ∷ updates 1 3 ∷ releases 0 (0 ∷ 1 ∷ []) ∷ releases 1 [] ∷ []
 
+-- each kind of guard
 abbrev pub allGuards : List GuardRow
 allGuards =
     guardRow (bytes "isTrue") (port 1 ∷ [])
@@ -77,12 +85,15 @@ allGuards =
     ∷ guardRow (bytes "equal") (port 7 ∷ port 8 ∷ [])
     ∷ guardRow (bytes "equal") (fixed int 0 ∷ port 6 ∷ []) ∷ []
 
+-- two modes
 abbrev pub allModes : List ModeRow
 allModes = modeRow (bytes "day") 0 2147483647 8 ∷ modeRow (bytes "night") 1 5000 0 ∷ []
 
+-- each instruction
 abbrev pub allCode : List Instr
 allCode = iff 4 3 ∷ call 5 ∷ release 1 ∷ future 5 2147483647 ∷ return ∷ nop 0 ∷ nop 2 ∷ switch 1 ∷ jump 8 ∷ []
 
+-- a table with every kind of driver, guard and instruction
 abbrev pub full : Table
 full = fullWith allDrivers allGuards allModes allCode
 
@@ -109,11 +120,14 @@ begun rest = framed (1 ∷ rest)
 abbrev pub toDrivers : List ℕ → List ℕ
 toDrivers rest = begun (1 ∷ 77 ∷ 0 ∷ 0 ∷ 0 ∷ 0 ∷ 0 ∷ 0 ∷ 0 ∷ 1 ∷ rest)
 
+-- a file up to its guards
 abbrev pub toGuards : List ℕ → List ℕ
 toGuards rest = begun (1 ∷ 77 ∷ 0 ∷ 0 ∷ 0 ∷ 0 ∷ 0 ∷ 0 ∷ 0 ∷ 0 ∷ 0 ∷ 1 ∷ rest)
 
+-- a file up to its modes
 abbrev pub toModes : List ℕ → List ℕ
 toModes rest = begun (1 ∷ 77 ∷ 0 ∷ 0 ∷ 0 ∷ 0 ∷ 0 ∷ 0 ∷ 0 ∷ 0 ∷ 0 ∷ 0 ∷ 0 ∷ 1 ∷ rest)
 
+-- a file up to its code
 abbrev pub toCode : List ℕ → List ℕ
 toCode rest = begun (1 ∷ 77 ∷ 0 ∷ 0 ∷ 0 ∷ 0 ∷ 0 ∷ 0 ∷ 0 ∷ 0 ∷ 0 ∷ 0 ∷ 0 ∷ 0 ∷ 0 ∷ 1 ∷ rest)

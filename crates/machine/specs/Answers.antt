@@ -14,9 +14,11 @@ pub record Meaning : Type 0 where
   pub instructions : ℕ
   pub task : Option ℕ
 
+-- an answer's number, instructions and task
 abbrev pub meaning : ℕ → ℕ → Option ℕ → Meaning
 meaning number instructions task = record { number = number; instructions = instructions; task = task }
 
+-- what start and tick answer
 abbrev pub reactionMeans : Reaction → Meaning
 reactionMeans (R.Obeyed instructions) = meaning 0 instructions none
 reactionMeans R.Idle = meaning 0 0 none
@@ -24,11 +26,13 @@ reactionMeans (R.Refused number) = meaning number 0 none
 reactionMeans (R.Late task) = meaning 40 0 (some task)
 reactionMeans (R.Fault number) = meaning number 0 none
 
+-- what next answers
 abbrev pub turnMeans : Turn → Meaning
 turnMeans (T.Task task) = meaning 0 0 (some task)
 turnMeans T.Nobody = meaning 0 0 none
 turnMeans (T.Refused number) = meaning number 0 none
 
+-- what finish answers
 abbrev pub finishingMeans : Finishing → Meaning
 finishingMeans F.Taken = meaning 0 0 none
 finishingMeans (F.Refused number) = meaning number 0 none

@@ -18,9 +18,11 @@ use Rattle.file.specs.Tables.{Argument, port, fixed, GuardRow, ModeRow, Table}
 abbrev pub boardRoom : ℕ
 boardRoom = sensorRoom + actuatorRoom + allPortRoom + allPortRoom
 
+-- results aside: 8 for each of 32 tasks
 abbrev pub asideRoom : ℕ
 asideRoom = taskRoom * portRoom
 
+-- a list filled up to its room
 abbrev pub padded : {A : Type 0} → ℕ → A → List A → List A
 padded room blank list = list ++ replicate (room - length list) blank
 
@@ -30,9 +32,11 @@ pub record Lot : Type 0 where
   pub outputs : ℕ
   pub results : ℕ
 
+-- a task with no ports
 abbrev pub noLot : Lot
 noLot = record { inputs = 0; outputs = 0; results = 0 }
 
+-- what the machine reads of a table
 pub record Board : Type 0 where
   pub code : List Instr
   pub drivers : List Driver
@@ -46,10 +50,12 @@ pub record Board : Type 0 where
 
 -- ---- the board of a table
 
+-- a guard's argument as an operand
 abbrev pub operandOf : Argument → Operand
 operandOf (port number) = Port number
 operandOf (fixed type word) = Fixed (valueOf type word)
 
+-- a guard's row as a guard
 abbrev pub guardOf : GuardRow → Guard
 guardOf row =
     let arguments = map operandOf (row .arguments) in
@@ -66,6 +72,7 @@ abbrev pub startFrom : ℕ → List ModeRow → ℕ
 startFrom n [] = n
 startFrom n (m ∷ ms) = cond (eqb (m .start) 1) n (startFrom (suc n) ms)
 
+-- the board of a table
 unfoldable pub boardOf : Table → Board
 boardOf t =
     record {

@@ -32,20 +32,24 @@ pub record State : Type 0 where
   pub fault : ℕ
   pub late : ℕ
 
+-- the answer to start or tick, and the machine after it
 pub record Ticked : Type 0 where
   pub answer : Reaction
   pub state : State
 
+-- the answer to next, and the machine after it
 pub record Handed : Type 0 where
   pub answer : Turn
   pub state : State
 
+-- the answer to finish, and the machine after it
 pub record Finished : Type 0 where
   pub answer : Finishing
   pub state : State
 
 -- ---- faults stop the machine, all else as before the call
 
+-- the machine stopped by a fault, all else as before
 abbrev pub stoppedBy : ℕ → ℕ → State → State
 stoppedBy fault task m =
     record {
@@ -60,12 +64,14 @@ stoppedBy fault task m =
       late = task;
     }
 
+-- what a fault answers: 40 with the late task, 41, 42, 43
 abbrev pub faulted : E.Fault → State → Ticked
 faulted (E.late task) m = record { answer = Late task; state = stoppedBy 40 task m }
 faulted E.wild m = record { answer = Fault 41; state = stoppedBy 41 0 m }
 faulted E.astray m = record { answer = Fault 42; state = stoppedBy 42 0 m }
 faulted E.clash m = record { answer = Fault 43; state = stoppedBy 43 0 m }
 
+-- what a reaction came to: the new state, or a fault
 abbrev pub cameTo : State → ℕ → Tally → Res (Halt Store) → Ticked
 cameTo m count tally (ok halt) =
     record {
@@ -88,19 +94,23 @@ cameTo m count tally (bad fault) = faulted fault m
 abbrev pub sensed : List ℕ → Store → Store
 sensed words s = record { ports = place 0 words (s .ports); out = s .out; waiting = s .waiting; finished = s .finished }
 
+-- a due tick
 unfoldable pub reacted : Board → State → ℕ → List ℕ → Ticked
 reacted b m count words =
     let run = reaction b (m .aside) (m .mode) (m .pc) (sensed words (m .store)) in
     cameTo m count (run .tally) (run .res)
 
+-- the types of the sensors
 abbrev pub readingTypes : Board → List ℕ
 readingTypes b = part (b .types) 0 (b .sensors)
 
+-- the types of a task's outputs
 abbrev pub resultTypes : Board → ℕ → List ℕ
 resultTypes b task = part (b .types) (lotOf b [] task .outputs) (lotOf b [] task .results)
 
 -- ---- tick: 31 machine stopped; 32 readings of wrong count or type; 33 instant missed
 
+-- an idle tick: count and what remains, nothing else
 abbrev pub idled : State → ℕ → ℕ → State
 idled m count left =
     record {
@@ -115,11 +125,13 @@ idled m count left =
       late = m .late;
     }
 
+-- by the clock: idle, one reaction, or 33
 abbrev pub byInstant : Board → State → ℕ → List ℕ → Instant → Ticked
 byInstant b m count words (early left) = record { answer = Idle; state = idled m count left }
 byInstant b m count words due = reacted b m count words
 byInstant b m count words missed = record { answer = Refused 33; state = m }
 
+-- a tick: 31, 32, then by the clock
 unfoldable pub tick : Board → State → ℕ → List ℕ → List ℕ → Ticked
 tick b m count types words =
     let served = byInstant b m count words (judged (elapsed (m .clock) count) (m .remaining)) in
@@ -128,6 +140,7 @@ tick b m count types words =
 
 -- ---- next task: the lowest-numbered one released and not yet handed out, or none
 
+-- the machine with other words for its tasks and other results aside
 abbrev pub withWords : State → Store → List ℕ → State
 withWords m store aside =
     record {
@@ -142,6 +155,7 @@ withWords m store aside =
       late = m .late;
     }
 
+-- the task handed out waits no more
 abbrev pub handedOut : State → Option ℕ → Handed
 handedOut m none = record { answer = T.Nobody; state = m }
 handedOut m (some task) =
@@ -150,14 +164,17 @@ handedOut m (some task) =
       state = withWords m (record { ports = m .store .ports; out = m .store .out; waiting = parted (m .store .waiting) task; finished = m .store .finished }) (m .aside);
     }
 
+-- next: 31, the lowest task that waits, or none
 unfoldable pub nextTask : State → Handed
 nextTask m = cond (m .stopped) (record { answer = T.Refused 31; state = m }) (handedOut m (lowestIn (m .store .waiting)))
 
 -- ---- finish stores results aside: 31; 34 task not handed out or already finished; 35 results of wrong count or type
 
+-- whether a task is out, handed out and not finished
 abbrev pub atWork : Store → ℕ → Bool
 atWork s task = ltb task taskRoom && (has (s .out) task && (not (has (s .waiting) task) && not (has (s .finished) task)))
 
+-- finish: 31, 34, 35, or the results go aside
 unfoldable pub finish : Board → State → ℕ → List ℕ → List ℕ → Finished
 finish b m task types words =
     let store : Store = record { ports = m .store .ports; out = m .store .out; waiting = m .store .waiting; finished = joined (m .store .finished) task } in
@@ -167,8 +184,10 @@ finish b m task types words =
 
 -- ---- look shows the whole machine; the tasks out are counted from the word
 
+-- look: the whole machine
 abbrev pub look : State → State
 look m = m
 
+-- how many tasks are out
 abbrev pub tasksOut : State → ℕ
 tasksOut m = countIn (m .store .out)

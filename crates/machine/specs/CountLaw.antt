@@ -27,6 +27,7 @@ use Rattle.machine.specs.Counts.{Call, ticks, asks, ends, tallyAt, tally
 
 -- ---- code whose releases name tasks that a word can hold
 
+-- whether the task of a release has a bit
 abbrev pub within : Instr → Bool
 within (release task) = ltb task 64
 within (nop marker) = true
@@ -37,6 +38,7 @@ within (jump pc) = true
 within return = true
 within (switch target) = true
 
+-- so for every instruction
 abbrev pub Within : List Instr → Type 0
 Within [] = Unit {0}
 Within (i ∷ rest) = (within i ≡ true) × Within rest
@@ -52,6 +54,7 @@ pick-within false rest other fine also = also
 
 -- ---- the books of a run: what was out at first and is released since is what is terminated and out
 
+-- releases and terminations square with the tasks out
 pub record Square (first : ℕ) (n : Tally) (s : Store) : Type 0 where
   pub word : s .out < 2 ^ 64
   pub books : n .begun + first ≡ n .ended + countIn (s .out)

@@ -19,11 +19,13 @@ pub data Call : Type 0 where
 abbrev pub tallyAt : Board → State → List ℕ → Tally
 tallyAt b m words = reaction b (m .aside) (m .mode) (m .pc) (sensed words (m .store)) .tally
 
+-- what a tick counts, by the clock
 abbrev pub tallyBy : Board → State → List ℕ → Instant → Tally
 tallyBy b m words (early left) = noTally
 tallyBy b m words due = tallyAt b m words
 tallyBy b m words missed = noTally
 
+-- what a tick counts
 unfoldable pub tickTally : Board → State → ℕ → List ℕ → List ℕ → Tally
 tickTally b m count types words =
     let served = tallyBy b m words (judged (elapsed (m .clock) count) (m .remaining)) in
@@ -35,9 +37,11 @@ pub record Account : Type 0 where
   pub releases : ℕ
   pub terminations : ℕ
 
+-- an account with a call's counts added
 abbrev pub counting : Account → State → Tally → Account
 counting a state tally = record { state = state; releases = a .releases + tally .begun; terminations = a .terminations + tally .ended }
 
+-- an account after a call
 unfoldable pub called : Board → Account → Call → Account
 called b a (ticks count types words) = counting a (tick b (a .state) count types words .state) (tickTally b (a .state) count types words)
 called b a asks = counting a (nextTask (a .state) .state) noTally

@@ -13,6 +13,7 @@ pub data Fault : Type 0 where
   astray : Fault
   clash : Fault
 
+-- a result, or a fault
 pub data Res (A : Type 0) : Type 0 where
   ok : A → Res A
   bad : Fault → Res A
@@ -35,12 +36,15 @@ pub record Tally : Type 0 where
   pub begun : ℕ
   pub ended : ℕ
 
+-- nothing counted
 abbrev pub noTally : Tally
 noTally = record { steps = 0; begun = 0; ended = 0 }
 
+-- an instruction counted, with its releases and terminations
 abbrev pub counted : ℕ → ℕ → Tally → Tally
 counted releases terminations n = record { steps = suc (n .steps); begun = n .begun + releases; ended = n .ended + terminations }
 
+-- an instruction counted
 abbrev pub step : Tally → Tally
 step n = record { steps = suc (n .steps); begun = n .begun; ended = n .ended }
 
@@ -50,13 +54,16 @@ pub record Halt (S : Type 0) : Type 0 where
   pub future : Future
   pub store : S
 
+-- how a reaction ends, and what it counted
 pub record Run (S : Type 0) : Type 0 where
   pub res : Res (Halt S)
   pub tally : Tally
 
+-- a fault before any further instruction
 abbrev pub fail : {S : Type 0} → Fault → Run S
 fail fault = record { res = bad fault; tally = noTally }
 
+-- on with the store, or the fault
 abbrev pub goOn : {S : Type 0} → Res S → (S → Run S) → Run S
 goOn (ok store) next = next store
 goOn (bad fault) next = fail fault
@@ -66,6 +73,7 @@ abbrev pub only : {S : Type 0} → Option Future → Run S → Run S
 only none run = run
 only (some promised) run = fail astray
 
+-- a return: the future that was noted, or 42
 abbrev pub leave : {S : Type 0} → Option Future → Tally → ℕ → S → Run S
 leave none n mode store = fail astray
 leave (some promised) n mode store = record { res = ok (record { mode = mode; future = promised; store = store }); tally = n }

@@ -32,10 +32,12 @@ pub record Went (m : State) (count : ℕ) (after : State) : Type 0 where
   pub fault : after .fault ≡ m .fault
   pub late : after .late ≡ m .late
 
+-- what an idle tick leaves
 pub record Idled (m : State) (count : ℕ) (after : State) : Type 0 where
   pub before : elapsed (m .clock) count < m .remaining
   pub same : after ≡ idled m count (m .remaining - elapsed (m .clock) count)
 
+-- what each answer to a tick leaves
 abbrev pub Leaves : State → ℕ → Reaction → State → Type 0
 Leaves m count (R.Obeyed steps) after = Went m count after
 Leaves m count R.Idle after = Idled m count after
@@ -76,6 +78,7 @@ module _ (b : Board) (m : State) (count : ℕ) (types words : List ℕ) where
 
 -- ---- next task
 
+-- what each answer to next leaves
 abbrev pub LeavesNext : State → Turn → State → Type 0
 LeavesNext m (T.Task task) after =
     after ≡ withWords m (record { ports = m .store .ports; out = m .store .out; waiting = parted (m .store .waiting) task; finished = m .store .finished }) (m .aside)
@@ -93,6 +96,7 @@ next-leaves m = go (m .stopped) (lowestIn (m .store .waiting))
 
 -- ---- finish: the results stand aside, no port changes
 
+-- what each answer to finish leaves
 abbrev pub LeavesFinish : State → ℕ → List ℕ → Finishing → State → Type 0
 LeavesFinish m task words F.Taken after =
     after ≡ withWords m (record { ports = m .store .ports; out = m .store .out; waiting = m .store .waiting; finished = joined (m .store .finished) task }) (place (task * portRoom) words (m .aside))

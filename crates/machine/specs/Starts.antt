@@ -40,10 +40,12 @@ noMachine =
       late = 0;
     }
 
+-- a start, where it is known whether the table is sound
 abbrev pub startOn : Bool → Board → ℕ → List ℕ → List ℕ → Ticked
 startOn isSound b count types words =
     let served = reacted b (fresh b count) count words in
     cond isSound (cond (fits (readingTypes b) types words) served (record { answer = Refused 32; state = noMachine })) (record { answer = Refused 30; state = noMachine })
 
+-- a start: 30, 32, or the reaction at the start mode's begin
 unfoldable pub start : Table → ℕ → List ℕ → List ℕ → Ticked
 start t count types words = startOn (sound t) (boardOf t) count types words

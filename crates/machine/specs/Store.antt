@@ -12,6 +12,7 @@ use Rattle.machine.specs.Words.{has, joined, parted}
 use Rattle.machine.specs.Boards.{Board, Lot, noLot}
 use Rattle.machine.specs.Instructions.{Fault, late, clash, Res, ok, bad, Ops, Run, exec, noTally}
 
+-- ports, and the words of the tasks out, waiting and finished
 pub record Store : Type 0 where
   pub ports : List ℕ
   pub out : ℕ

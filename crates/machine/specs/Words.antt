@@ -12,6 +12,7 @@ has word task = eqb (word / 2 ^ task % 2) 1
 abbrev pub joined : ℕ → ℕ → ℕ
 joined word task = cond (has word task) word (cond (ltb task 64) (word + 2 ^ task) word)
 
+-- a word without a task's bit
 abbrev pub parted : ℕ → ℕ → ℕ
 parted word task = cond (has word task) (word - 2 ^ task) word
 
@@ -22,6 +23,7 @@ lowestFrom (suc n) task word =
     let higher = lowestFrom n (task + 1) word in
     cond (has word task) (some task) higher
 
+-- the lowest task in a word
 abbrev pub lowestIn : ℕ → Option ℕ
 lowestIn word = lowestFrom 64 0 word
 
@@ -32,5 +34,6 @@ countFrom (suc n) task word =
     let others = countFrom n (task + 1) word in
     cond (has word task) (others + 1) others
 
+-- how many tasks a word has
 abbrev pub countIn : ℕ → ℕ
 countIn word = countFrom 64 0 word

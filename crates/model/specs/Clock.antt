@@ -15,6 +15,7 @@ pub data Instant : Type 0 where
   due : Instant
   missed : Instant
 
+-- idle, due or missed: elapsed time against what remains
 abbrev pub judged : ℕ → ℕ → Instant
 judged gone remaining = cond (ltb gone remaining) (early (remaining - gone)) (cond (eqb gone remaining) due missed)
 

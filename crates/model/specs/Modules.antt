@@ -6,17 +6,20 @@ use mathlib.Core.List.{List, [], _∷_, _++_, map}
 use lib.ListN.{length, getD, set}
 use Rattle.model.specs.declared.Guard.{Guard}
 
+-- a sensor: its name, its type, its getter
 pub record Sensor : Type 0 where
   pub name : List ℕ
   pub type : ℕ
   pub getter : List ℕ
 
+-- an actuator: its name, its type, its first value, its setter
 pub record Actuator : Type 0 where
   pub name : List ℕ
   pub type : ℕ
   pub start : ℕ
   pub setter : List ℕ
 
+-- an output port: its name, its type, its first value
 pub record Output : Type 0 where
   pub name : List ℕ
   pub type : ℕ
@@ -63,11 +66,13 @@ pub record Module : Type 0 where
   pub guards : List Guard
   pub modes : List Mode
 
+-- what stands where no task is
 abbrev pub noTask : Task
 noTask = record { name = []; function = []; inputs = []; outputs = [] }
 
 -- ---- ports: sensors, actuators, then task by task inputs and outputs
 
+-- what every entry gives, one behind the other
 abbrev pub each : {A B : Type 0} → (A → List B) → List A → List B
 each f [] = []
 each f (x ∷ xs) = f x ++ each f xs
@@ -76,6 +81,7 @@ each f (x ∷ xs) = f x ++ each f xs
 abbrev pub taskTypes : Task → List ℕ
 taskTypes task = task .inputs ++ map (λ o. o .type) (task .outputs)
 
+-- the types of all ports, in the order of their numbers
 unfoldable pub portTypes : List Sensor → List Actuator → List Task → List ℕ
 portTypes sensors actuators tasks = map (λ s. s .type) sensors ++ (map (λ a. a .type) actuators ++ each taskTypes tasks)
 
@@ -83,6 +89,7 @@ portTypes sensors actuators tasks = map (λ s. s .type) sensors ++ (map (λ a. a
 abbrev pub taskStarts : Task → List ℕ
 taskStarts task = map (λ i. 0) (task .inputs) ++ map (λ o. o .start) (task .outputs)
 
+-- the first words of all ports: sensors and inputs 0, actuators and outputs as declared
 unfoldable pub portStarts : List Sensor → List Actuator → List Task → List ℕ
 portStarts sensors actuators tasks = map (λ s. 0) sensors ++ (map (λ a. a .start) actuators ++ each taskStarts tasks)
 
@@ -96,6 +103,7 @@ inputsAt at [] k = at
 inputsAt at (task ∷ tasks) zero = at
 inputsAt at (task ∷ tasks) (suc k) = inputsAt (at + taskPorts task) tasks k
 
+-- the number of a task's first output port: behind its inputs
 abbrev pub outputsAt : ℕ → List Task → ℕ → ℕ
 outputsAt at tasks k = inputsAt at tasks k + length (getD tasks k noTask .inputs)
 

@@ -21,6 +21,7 @@ use Rattle.model.specs.declared.Guard.{Guard}
 abbrev pub int : ℕ
 int = 0
 
+-- the type boolean
 abbrev pub boolean : ℕ
 boolean = 1
 
@@ -36,6 +37,7 @@ fitsType type word = cond (eqb type boolean) (leb word 1) true
 abbrev pub valueOf : ℕ → ℕ → Value
 valueOf type word = cond (eqb type boolean) (Flag (eqb word 1)) (Int (toZ w32 word))
 
+-- the word of a value: an int in 32 bits with its sign, a boolean as 0 or 1
 abbrev pub wordOf : Value → ℕ
 wordOf (Int number) = ofZ w32 number
 wordOf (Flag true) = 1
@@ -61,15 +63,18 @@ holds ports guard = says (guard .function) (operandWord ports (guard .first)) (o
 abbrev pub functionNames : List (List ℕ)
 functionNames = bytes "isTrue" ∷ bytes "isFalse" ∷ bytes "less" ∷ bytes "equal" ∷ []
 
+-- a guard function's number
 abbrev pub functionNumber : Function → ℕ
 functionNumber IsTrue = 0
 functionNumber IsFalse = 1
 functionNumber Less = 2
 functionNumber Equal = 3
 
+-- the guard function of a number
 abbrev pub functionBy : ℕ → Function
 functionBy number = getD (IsTrue ∷ IsFalse ∷ Less ∷ Equal ∷ []) number Equal
 
+-- how many arguments a guard function takes
 abbrev pub operandsOf : Function → ℕ
 operandsOf IsTrue = 1
 operandsOf IsFalse = 1
@@ -80,5 +85,6 @@ operandsOf Equal = 2
 abbrev pub noOperand : Operand
 noOperand = Port 0
 
+-- what stands where no guard is
 abbrev pub noGuard : Guard
 noGuard = record { function = IsTrue; first = noOperand; second = noOperand }

@@ -36,6 +36,7 @@ pub data Call : Type 0 where
   nexts : Call
   finishes : ℕ → List ℕ → Call
 
+-- a call, and what it must answer and show
 pub record Step : Type 0 where
   pub calls : Call
   pub number : ℕ
@@ -43,6 +44,7 @@ pub record Step : Type 0 where
   pub remaining : ℕ
   pub ports : List ℕ
 
+-- a text and its answer, or a text with calls
 pub data Case : Type 0 where
   gives : List ℕ → List ℕ → Case  -- text, file
   refuses : List ℕ → ℕ → ℕ → Case  -- text, number, offset
@@ -129,6 +131,7 @@ holdsOf (passes text) = isFile (compileOf text room)
 holdsOf (blocks text times) = areBlocks (compiled (compileOf text room)) times
 holdsOf (plays text steps) = played (compiled (compileOf text room)) steps
 
+-- whether every case holds
 pub every : List Case → Bool
 every [] = true
 every (c ∷ cs) = holdsOf c && every cs
@@ -176,6 +179,7 @@ idled = step (ticks 4294967000 (1 ∷ [])) 0 0 3000 (7 ∷ 0 ∷ 7 ∷ 10 ∷ []
 served : Step
 served = step (ticks 2704 (9 ∷ [])) 0 9 5000 (9 ∷ 8 ∷ 9 ∷ 8 ∷ [])
 
+-- the bench cases marked (P)
 pub cases : List Case
 cases =
     gives smallest smallestFile ∷
@@ -195,6 +199,7 @@ cases =
     plays bikes (begun ∷ handed ∷ finished ∷ idled ∷ step (ticks 2705 (9 ∷ [])) 33 0 3000 (7 ∷ 0 ∷ 7 ∷ 10 ∷ []) ∷ served ∷ []) ∷
     []
 
+-- every one of them holds
 pub bench : T (every cases)
 unfolding timesFrom tableIn compiled types shows stepsOn played isFile isThis isRefusal areBlocks room holdsOf every smallest smallestFile bikes step begun handed finished idled served cases refusedIn readItems answerBy moduleBy opened compileOf fileOf tableOf codeOf beginsOf driversOf codeFrom beginsFrom modeCode laterBlocks back front instantsOf instantsFrom nextInstant spans portTypes portStarts fits holds boardOf lowestFrom exec reaction reacted tick nextTask finish start same
 bench = tt

@@ -13,6 +13,7 @@ use Rattle.model.specs.declared.Guard.{Guard}
 use Rattle.file.specs.Tables.{Argument, port, fixed, GuardRow, ModeRow, Table}
 use Rattle.timing.specs.Code.{codeOf, beginsOf, driversOf}
 
+-- the type of a value
 abbrev pub typeOf : Value → ℕ
 typeOf (Int number) = int
 typeOf (Flag flag) = boolean
@@ -22,6 +23,7 @@ abbrev pub argumentOf : Operand → Argument
 argumentOf (Port number) = port number
 argumentOf (Fixed value) = fixed (typeOf value) (wordOf value)
 
+-- a guard as the file has it
 abbrev pub guardRow : Guard → GuardRow
 guardRow guard =
     record {
@@ -35,6 +37,7 @@ modeRows [] begins = []
 modeRows (m ∷ ms) [] = []
 modeRows (m ∷ ms) (begin ∷ begins) = record { name = m .name; start = cond (m .start) 1 0; period = m .period; begin = begin } ∷ modeRows ms begins
 
+-- the table of a module
 unfoldable pub tableOf : Module → Table
 tableOf M =
     record {

@@ -23,9 +23,11 @@ use Rattle.refusals.specs.Values.{numberOf}
 abbrev pub periodAt : List ℕ → Name → Bool → ℕ
 periodAt s digits milli = cond milli (numberOf s digits * 1000) (numberOf s digits)
 
+-- a mode's start: 12 at a second start mode
 unfoldable pub startRules : Bool → Bool → ℕ → List Check
 startRules started start at = secondStart (start && started) at ∷ []
 
+-- a mode's period: 8 where it is 0 or too long
 unfoldable pub periodRules : List ℕ → Name → Bool → List Check
 periodRules s digits milli = outOfRange (beyond periodRoom (periodAt s digits milli)) digits ∷ []
 
@@ -39,15 +41,19 @@ switchKind = 4
 abbrev pub activitiesIn : Mode → ℕ
 activitiesIn mode = length (mode .calls) + length (mode .updates) + length (mode .switches)
 
+-- the frequencies of the tasks invoked
 abbrev pub frequenciesIn : Mode → List ℕ
 frequenciesIn mode = map (λ act. act .frequency) (mode .calls)
 
+-- the tasks invoked
 abbrev pub invokedIn : Mode → List ℕ
 invokedIn mode = map (λ act. act .what .task) (mode .calls)
 
+-- the actuators updated
 abbrev pub updatedIn : Mode → List ℕ
 updatedIn mode = map (λ act. act .what .target) (mode .updates)
 
+-- an activity's head: room, range, the period divided, no task cut by a switch
 unfoldable pub headRules : Mode → ℕ → ℕ → ℕ → Name → List Check
 headRules mode kind at frequency digits =
     full activityRoom (activitiesIn mode) at ∷
@@ -62,6 +68,7 @@ headRules mode kind at frequency digits =
 abbrev pub functionsGiven : ℕ
 functionsGiven = 4
 
+-- the number of the guard function of a name
 abbrev pub functionNamed : List ℕ → Name → ℕ
 functionNamed s name = placeIn functionNames 0 (letters s name)
 
@@ -72,6 +79,7 @@ operandTypes IsFalse = boolean ∷ []
 operandTypes Less = int ∷ int ∷ []
 operandTypes Equal = noType ∷ noType ∷ []
 
+-- a guard's name and the number of its arguments
 unfoldable pub guardRules : ℕ → Name → ℕ → List Check
 guardRules number name arguments =
     longName name ∷
@@ -94,6 +102,7 @@ typesLeft type wanted = map (λ left. cond (eqb left noType) type left) (drop 1 
 abbrev pub inputsOf : Row → Row → Bool
 inputsOf task = isPortOf (taskScope (task .value)) inputSort
 
+-- a task's invocation: its name, not twice in the mode, the number of its arguments
 unfoldable pub invokeRules : List Row → Mode → Row → Name → ℕ → List Check
 invokeRules rows mode task name arguments =
     longName name ∷
@@ -107,17 +116,21 @@ abbrev pub inputTypes : List Row → Row → ℕ → List ℕ
 inputTypes rows task arguments =
     cond (isKnown task && eqb (count (inputsOf task) rows) arguments) (types (inputsOf task) rows) []
 
+-- the actuator of a name
 abbrev pub actuatorNamed : List ℕ → List Row → Name → Row
 actuatorNamed s rows name = named s rows moduleScope actuatorSort name
 
+-- an update's actuator: its name, and not twice in the mode
 unfoldable pub actuatorRules : Mode → Row → Name → List Check
 actuatorRules mode actuator name = longName name ∷ notHere actuator name ∷ actsTwice actuator (updatedIn mode) name ∷ []
 
 abbrev pub modeNamed : List ℕ → List Row → Name → Row
 modeNamed s rows name = named s rows moduleScope modeSort name
 
+-- a switch's target: the name of a mode
 unfoldable pub targetRules : Row → Name → List Check
 targetRules mode name = longName name ∷ notHere mode name ∷ []
 
+-- the module's end: 12 where no mode is the start mode
 unfoldable pub endRules : Bool → ℕ → List Check
 endRules started at = noStart started at ∷ []

@@ -13,6 +13,7 @@ pub record Check : Type 0 where
   pub at : ℕ
   pub broken : Bool
 
+-- a check by number, offset and whether it is broken
 abbrev pub check : ℕ → ℕ → Bool → Check
 check number at broken = record { number = number; at = at; broken = broken }
 
@@ -37,6 +38,7 @@ first (c ∷ cs) =
     let on = first cs in
     cond (c .broken) (No (c .number) (c .at)) on
 
+-- whether nothing was refused
 abbrev pub isFine : Verdict → Bool
 isFine Fine = true
 isFine (No number at) = false

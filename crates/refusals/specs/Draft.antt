@@ -34,12 +34,15 @@ pub record Draft : Type 0 where
   pub doing : Doing
   pub started : Bool
 
+-- a mode before anything is known of it
 abbrev pub noMode : Mode
 noMode = record { name = []; start = false; period = 0; calls = []; updates = []; switches = [] }
 
+-- an activity before anything is known of it
 abbrev pub idle : Doing
 idle = record { frequency = 0; function = none; operands = []; wanted = [] }
 
+-- the module before its first item
 abbrev pub blank : Draft
 blank =
     record {
@@ -52,48 +55,61 @@ blank =
 
 -- ---- one part changed
 
+-- the draft with another module so far
 abbrev pub withBuilt : Draft → Module → Draft
 withBuilt draft built = record { built = built; task = draft .task; mode = draft .mode; doing = draft .doing; started = draft .started }
 
+-- the draft with another task at hand
 abbrev pub withTask : Draft → Task → Draft
 withTask draft task = record { built = draft .built; task = task; mode = draft .mode; doing = draft .doing; started = draft .started }
 
+-- the draft with another mode at hand
 abbrev pub withMode : Draft → Mode → Draft
 withMode draft mode = record { built = draft .built; task = draft .task; mode = mode; doing = draft .doing; started = draft .started }
 
+-- the draft with another activity at hand
 abbrev pub withDoing : Draft → Doing → Draft
 withDoing draft doing = record { built = draft .built; task = draft .task; mode = draft .mode; doing = doing; started = draft .started }
 
 -- ---- one more of the module
 
+-- the module with its name
 abbrev pub withName : Module → List ℕ → Module
 withName m name = record { name = name; sensors = m .sensors; actuators = m .actuators; tasks = m .tasks; guards = m .guards; modes = m .modes }
 
+-- the module with one more sensor
 abbrev pub withSensor : Module → Sensor → Module
 withSensor m sensor = record { name = m .name; sensors = m .sensors ++ (sensor ∷ []); actuators = m .actuators; tasks = m .tasks; guards = m .guards; modes = m .modes }
 
+-- the module with one more actuator
 abbrev pub withActuator : Module → Actuator → Module
 withActuator m actuator = record { name = m .name; sensors = m .sensors; actuators = m .actuators ++ (actuator ∷ []); tasks = m .tasks; guards = m .guards; modes = m .modes }
 
+-- the module with one more task
 abbrev pub withTaskDone : Module → Task → Module
 withTaskDone m task = record { name = m .name; sensors = m .sensors; actuators = m .actuators; tasks = m .tasks ++ (task ∷ []); guards = m .guards; modes = m .modes }
 
+-- the module with more guards
 abbrev pub withGuards : Module → List Guard → Module
 withGuards m guards = record { name = m .name; sensors = m .sensors; actuators = m .actuators; tasks = m .tasks; guards = m .guards ++ guards; modes = m .modes }
 
+-- the module with one more mode
 abbrev pub withModeDone : Module → Mode → Module
 withModeDone m mode = record { name = m .name; sensors = m .sensors; actuators = m .actuators; tasks = m .tasks; guards = m .guards; modes = m .modes ++ (mode ∷ []) }
 
 -- ---- one more of the mode under way
 
+-- the mode with one more task invoked
 abbrev pub withCall : Mode → Act Call → Mode
 withCall mode call =
     record { name = mode .name; start = mode .start; period = mode .period; calls = mode .calls ++ (call ∷ []); updates = mode .updates; switches = mode .switches }
 
+-- the mode with one more actuator updated
 abbrev pub withUpdate : Mode → Act Update → Mode
 withUpdate mode update =
     record { name = mode .name; start = mode .start; period = mode .period; calls = mode .calls; updates = mode .updates ++ (update ∷ []); switches = mode .switches }
 
+-- the mode with one more switch
 abbrev pub withSwitch : Mode → Act ℕ → Mode
 withSwitch mode switch =
     record { name = mode .name; start = mode .start; period = mode .period; calls = mode .calls; updates = mode .updates; switches = mode .switches ++ (switch ∷ []) }
@@ -103,11 +119,13 @@ abbrev pub sourced : ℕ → Act Call → Act Call
 sourced source call =
     record { frequency = call .frequency; guard = call .guard; what = record { task = call .what .task; sources = call .what .sources ++ (source ∷ []) } }
 
+-- the last task invoked gets one more source
 unfoldable pub lastSourced : ℕ → List (Act Call) → List (Act Call)
 lastSourced source [] = []
 lastSourced source (call ∷ []) = sourced source call ∷ []
 lastSourced source (call ∷ next ∷ calls) = call ∷ lastSourced source (next ∷ calls)
 
+-- the mode with one more source for the task invoked last
 abbrev pub withSource : Mode → ℕ → Mode
 withSource mode source =
     record { name = mode .name; start = mode .start; period = mode .period; calls = lastSourced source (mode .calls); updates = mode .updates; switches = mode .switches }
@@ -123,10 +141,12 @@ abbrev pub guardOf : Option Function → List Operand → List Guard
 guardOf none operands = []
 guardOf (some function) operands = record { function = function; first = getD operands 0 noOperand; second = getD operands 1 noOperand } ∷ []
 
+-- a guard's number: as many as stand before it
 abbrev pub guardNumber : Option Function → ℕ → Option ℕ
 guardNumber none before = none
 guardNumber (some function) before = some before
 
+-- the activity at hand: its frequency, its guard, what it does
 abbrev pub acting : {A : Type 0} → Draft → A → Act A
 acting draft what =
     record { frequency = draft .doing .frequency; guard = guardNumber (draft .doing .function) (length (draft .built .guards)); what = what }
@@ -147,20 +167,25 @@ abbrev pub withOperand : Doing → Row → Doing
 withOperand doing row =
     record { frequency = doing .frequency; function = doing .function; operands = doing .operands ++ (operandOf row ∷ []); wanted = typesLeft (row .typ) (doing .wanted) }
 
+-- the activity with the types still wanted
 abbrev pub withWanted : Doing → List ℕ → Doing
 withWanted doing wanted = record { frequency = doing .frequency; function = doing .function; operands = doing .operands; wanted = wanted }
 
 -- ---- each item
 
+-- a task of which the name is known
 abbrev pub newTask : List ℕ → Task
 newTask name = record { name = name; function = []; inputs = []; outputs = [] }
 
+-- the task with one more input
 abbrev pub withInput : Task → ℕ → Task
 withInput task type = record { name = task .name; function = task .function; inputs = task .inputs ++ (type ∷ []); outputs = task .outputs }
 
+-- the task with one more output
 abbrev pub withOutput : Task → Output → Task
 withOutput task output = record { name = task .name; function = task .function; inputs = task .inputs; outputs = task .outputs ++ (output ∷ []) }
 
+-- the task with the host's function
 abbrev pub withFunction : Task → List ℕ → Task
 withFunction task function = record { name = task .name; function = function; inputs = task .inputs; outputs = task .outputs }
 

@@ -13,24 +13,30 @@ use Rattle.refusals.specs.declared.Row.{Row}
 abbrev pub constantSort : ℕ
 constantSort = 0
 
+-- a sensor
 abbrev pub sensorSort : ℕ
 sensorSort = 1
 
+-- an actuator
 abbrev pub actuatorSort : ℕ
 actuatorSort = 2
 
+-- a task
 abbrev pub taskSort : ℕ
 taskSort = 3
 
 abbrev pub modeSort : ℕ
 modeSort = 4
 
+-- an input port
 abbrev pub inputSort : ℕ
 inputSort = 5
 
+-- an output port
 abbrev pub outputSort : ℕ
 outputSort = 6
 
+-- what no declaration stands for
 abbrev pub noSort : ℕ
 noSort = 7
 
@@ -42,6 +48,7 @@ noType = 2
 abbrev pub moduleScope : ℕ
 moduleScope = 0
 
+-- the name space of a task's ports
 abbrev pub taskScope : ℕ → ℕ
 taskScope task = task + 1
 
@@ -49,9 +56,11 @@ taskScope task = task + 1
 abbrev pub unknown : Row
 unknown = record { start = 0; end = 0; scope = moduleScope; sort = noSort; typ = noType; value = textRoom }
 
+-- whether a name is declared
 abbrev pub isKnown : Row → Bool
 isKnown row = ltb (row .sort) noSort
 
+-- whether a name is not declared
 abbrev pub isUnknown : Row → Bool
 isUnknown row = eqb (row .sort) noSort
 
@@ -100,9 +109,11 @@ types test (row ∷ rows) =
 abbrev pub isSort : ℕ → Row → Bool
 isSort sort row = eqb (row .sort) sort
 
+-- whether a row is a port of this task and sort
 abbrev pub isPortOf : ℕ → ℕ → Row → Bool
 isPortOf scope sort row = cond (eqb (row .scope) scope) (eqb (row .sort) sort) false
 
+-- whether a row is a port: a sensor's, an actuator's, an input or an output
 abbrev pub isPort : Row → Bool
 isPort row =
     cond (eqb (row .sort) sensorSort) true

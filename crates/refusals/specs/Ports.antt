@@ -10,6 +10,7 @@ use Rattle.refusals.specs.Names.{named, moduleScope, taskScope, sensorSo
 use Rattle.refusals.specs.Refusals.{longName, notHere, wrongType}
 use Rattle.refusals.specs.Values.{constantNamed, useRules}
 
+-- the task of a name
 abbrev pub taskNamed : List ℕ → List Row → Name → Row
 taskNamed s rows name = named s rows moduleScope taskSort name
 
@@ -50,8 +51,10 @@ placeRules s rows wanted row port =
     let plain = useRules wanted row (port .first) in
     cond (port .dotted) dotted plain
 
+-- a port in a source's place
 abbrev pub portRules : List ℕ → List Row → ℕ → Port → List Check
 portRules s rows wanted port = placeRules s rows wanted (portNamed s rows port) port
 
+-- a port or a constant in a guard argument's place
 abbrev pub argumentRules : List ℕ → List Row → ℕ → Port → List Check
 argumentRules s rows wanted port = placeRules s rows wanted (argumentNamed s rows port) port

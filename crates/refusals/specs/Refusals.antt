@@ -49,9 +49,11 @@ beyond limit number = eqb number 0 || ltb limit number
 abbrev pub outOfRange : Bool → Name → Check
 outOfRange is digits = check 8 (digits .start) is
 
+-- whether a frequency divides a number
 abbrev pub divides : ℕ → ℕ → Bool
 divides frequency number = eqb (number % frequency) 0
 
+-- whether a frequency divides every one
 unfoldable pub dividesAll : ℕ → List ℕ → Bool
 dividesAll frequency [] = true
 dividesAll frequency (number ∷ numbers) =
@@ -66,6 +68,7 @@ periodUndivided period frequency digits = check 9 (digits .start) (not (beyond f
 abbrev pub taskCut : Bool → List ℕ → ℕ → Name → Check
 taskCut isSwitch invoked frequency digits = check 9 (digits .start) (isSwitch && (not (beyond frequencyRoom frequency) && not (dividesAll frequency invoked)))
 
+-- whether a number is one of these
 unfoldable pub among : ℕ → List ℕ → Bool
 among number [] = false
 among number (other ∷ others) =

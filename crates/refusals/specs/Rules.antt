@@ -19,9 +19,11 @@ pub record Env : Type 0 where
   pub rows : List Row
   pub draft : Draft
 
+-- before the first item nothing is known
 abbrev pub nothing : Env
 nothing = record { rows = []; draft = blank }
 
+-- what is known behind an item
 abbrev pub grow : List ℕ → List Row → Env → Item → Env
 grow s all env item = record { rows = env .rows ++ declares s (env .rows) item; draft = drafted s all (env .rows) (env .draft) item }
 
@@ -62,6 +64,7 @@ unfoldable pub rulesFrom : List ℕ → List Row → Env → List Item → List 
 rulesFrom s all env [] = []
 rulesFrom s all env (item ∷ items) = rules s all env item ++ rulesFrom s all (grow s all env item) items
 
+-- what is known behind items
 unfoldable pub envAfter : List ℕ → List Row → Env → List Item → Env
 envAfter s all env [] = env
 envAfter s all env (item ∷ items) = envAfter s all (grow s all env item) items

@@ -14,9 +14,11 @@ use Rattle.refusals.specs.Rules.{Env, nothing, rulesFrom, envAfter}
 abbrev pub declaredBy : List ℕ → List Item → List Row
 declaredBy s items = rowsAfter s [] items
 
+-- the checks of items, in text order
 abbrev pub rulesBy : List ℕ → List Item → List Check
 rulesBy s items = rulesFrom s (declaredBy s items) nothing items
 
+-- what is known behind items, from nothing on
 abbrev pub envBy : List ℕ → List Item → Env
 envBy s items = envAfter s (declaredBy s items) nothing items
 

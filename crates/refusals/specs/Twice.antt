@@ -17,9 +17,11 @@ twiceIn whole (number ∷ numbers) at =
     let on = twiceIn whole numbers (at + 1) in
     cond (among number (take at whole)) at on
 
+-- the first place from here on whose number stood before it
 abbrev pub twiceFrom : List ℕ → ℕ → ℕ
 twiceFrom whole at = twiceIn whole (drop at whole) at
 
+-- the first place whose number stood before it
 abbrev pub twiceOf : List ℕ → ℕ
 twiceOf whole = twiceFrom whole 0
 

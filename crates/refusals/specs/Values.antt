@@ -29,11 +29,13 @@ intWord number minus = cond minus ((2 ^ 32 - number) % 2 ^ 32) number
 abbrev pub constantNamed : List ℕ → List Row → Name → Row
 constantNamed s rows name = named s rows moduleScope constantSort name
 
+-- the type of a literal
 abbrev pub literalType : List ℕ → List Row → Literal → ℕ
 literalType s rows (Truth at truth) = boolean
 literalType s rows (Number at digits minus) = int
 literalType s rows (Named name) = constantNamed s rows name .typ
 
+-- the word of a literal
 abbrev pub literalWord : List ℕ → List Row → Literal → ℕ
 literalWord s rows (Truth at truth) = cond truth 1 0
 literalWord s rows (Number at digits minus) = intWord (numberOf s digits) minus

@@ -16,6 +16,7 @@ use Rattle.text.specs.declared.Item.the-variants.{No}
 use Rattle.text.specs.declared.ReadItem.{ReadItem}
 use Rattle.text.specs.Tokens.{tokenAt, codeOf, is}
 
+-- a token that was taken, or a refusal
 abbrev pub got : ℕ → ℕ → ℕ → Got
 got bad start end = record { bad = bad; start = start; end = end }
 
@@ -60,9 +61,11 @@ wantWord word s g =
 abbrev pub either : Got → Got → Got
 either a b = cond (eqb (a .bad) 0) a b
 
+-- the bytes of a token as a name
 abbrev pub nameOf : Got → Name
 nameOf g = record { start = g .start; end = g .end }
 
+-- an item, the state behind it and the next place
 abbrev pub read : Item → State → ℕ → ReadItem
 read item state next = record { item = item; state = state; next = next }
 

@@ -80,12 +80,14 @@ taskPortAt s k g =
     cond (eqb k 3) (outputAt s g) (
     refusedAt s g))
 
+-- the part of a task that a keyword opens: its inputs, its outputs, or what it uses
 unfoldable pub portionAt : List ℕ → ℕ → ℕ → Got → ReadItem
 portionAt s k w g =
     cond (ltb w k) (refusedAt s g) (
     cond (eqb w 4) (taskEndAt s g) (
     closed I.Section (Q.Task w) (wantAny s g)))
 
+-- inside a task: another port, or another part
 unfoldable pub taskBodyAt : List ℕ → ℕ → Got → ReadItem
 taskBodyAt s k g = cond (stands T.Name s (g .end)) (taskPortAt s k g) (portionAt s k (portionOf (codeAt s (g .end))) g)
 
@@ -93,6 +95,7 @@ taskBodyAt s k g = cond (stands T.Name s (g .end)) (taskPortAt s k g) (portionAt
 unfoldable pub headAt : List ℕ → ℕ → Got → ReadItem
 headAt s k g = cond (eqb k 1) (refusedAt s g) (activityAt s k g)
 
+-- the part of a mode that a keyword opens
 unfoldable pub partAt : List ℕ → ℕ → ℕ → Got → ReadItem
 partAt s k w g =
     cond (ltb w k) (refusedAt s g) (
@@ -160,6 +163,7 @@ abbrev pub onto : Bool → Item → List Item → List Item
 onto true item items = item ∷ items
 onto false item items = item ∷ []
 
+-- at most so many items from a place on
 unfoldable pub itemsIn : ℕ → List ℕ → State → ℕ → List Item
 itemsIn zero s state at = []
 itemsIn (suc fuel) s state at =
@@ -171,6 +175,7 @@ itemsIn (suc fuel) s state at =
 abbrev pub itemsFrom : List ℕ → State → ℕ → List Item
 itemsFrom s state at = itemsIn (length s + 1 - at) s state at
 
+-- the items of a text
 abbrev pub itemsOf : List ℕ → List Item
 itemsOf s = itemsFrom s Q.Begin 0
 
@@ -181,6 +186,7 @@ pub record Refusal : Type 0 where
   pub number : ℕ
   pub offset : ℕ
 
+-- a refusal by number and offset
 abbrev pub refuse : ℕ → ℕ → Option Refusal
 refuse number offset = some (record { number = number; offset = offset })
 

@@ -14,6 +14,7 @@ use Rattle.text.specs.Tokens.{keyTokens, keyToken}
 use Rattle.text.specs.WordsLaws.{same→eq}
 use Rattle.text.specs.EachEntry.{both, both-left, both-right, each-entry}
 
+-- the keywords' bytes, one behind the other
 abbrev pub keyBytes : List ℕ
 keyBytes =
     97 ∷ 99 ∷ 116 ∷ 117 ∷ 97 ∷ 116 ∷ 111 ∷ 114 ∷ 0 ∷ 0 ∷ 0 ∷ 0 ∷
@@ -39,6 +40,7 @@ keyBytes =
     116 ∷ 121 ∷ 112 ∷ 101 ∷ 0 ∷ 0 ∷ 0 ∷ 0 ∷ 0 ∷ 0 ∷ 0 ∷ 0 ∷
     117 ∷ 115 ∷ 101 ∷ 115 ∷ 0 ∷ 0 ∷ 0 ∷ 0 ∷ 0 ∷ 0 ∷ 0 ∷ 0 ∷ []
 
+-- the keywords' lengths
 abbrev pub keyLengths : List ℕ
 keyLengths = 8 ∷ 2 ∷ 12 ∷ 5 ∷ 5 ∷ 2 ∷ 6 ∷ 4 ∷ 5 ∷ 4 ∷ 6 ∷ 6 ∷ 6 ∷ 6 ∷ 5 ∷ 5 ∷ 6 ∷ 4 ∷ 4 ∷ 4 ∷ 4 ∷ 4 ∷ []
 

@@ -9,6 +9,7 @@ use Rattle.text.specs.declared.Literal.the-variants.{Truth, Number, Name
 use Rattle.text.specs.declared.Item.{Item}
 use Rattle.text.specs.declared.Item.the-variants as I
 
+-- a name lies between two places of the text
 pub record NameLaid (lo hi : ℕ) (name : Name) : Type 0 where
   pub low : lo ≤ name .start
   pub some : name .start < name .end
@@ -19,11 +20,13 @@ pub record PortLaid (lo hi : ℕ) (port : Port) : Type 0 where
   pub first : NameLaid lo hi (port .first)
   pub second : port .dotted ≡ true → NameLaid (port .first .end) hi (port .second)
 
+-- a literal lies between two places
 abbrev pub LiteralLaid : ℕ → ℕ → Literal → Type 0
 LiteralLaid lo hi (Truth at truth) = (lo ≤ at) × (at < hi)
 LiteralLaid lo hi (Number at digits minus) = (lo ≤ at) × NameLaid at hi digits
 LiteralLaid lo hi (Named name) = NameLaid lo hi name
 
+-- an item's places lie between where it begins and where it ends
 abbrev pub Laid : ℕ → ℕ → Item → Type 0
 Laid lo hi (I.Module name) = NameLaid lo hi name
 Laid lo hi I.Section = lo < hi

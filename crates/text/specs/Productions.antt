@@ -20,6 +20,7 @@ use Rattle.text.specs.Expect.{got, want, wantAny, wantWord, either, name
 
 -- ---- Value: "true", "false", ["-"] number, or an earlier constant's name.
 
+-- a literal that was read, and where it ends
 abbrev pub literalOf : Got → Literal → ReadLiteral
 literalOf last literal = record { bad = last .bad; start = last .start; end = last .end; literal = literal }
 
@@ -27,27 +28,32 @@ literalOf last literal = record { bad = last .bad; start = last .start; end = la
 abbrev pub pastLiteral : ReadLiteral → Got
 pastLiteral read = got (read .bad) (read .start) (read .end)
 
+-- a literal: true or false
 unfoldable pub truthAt : List ℕ → Got → Bool → ReadLiteral
 truthAt s g truth =
     let word = wantAny s g in
     literalOf word (Truth (word .start) truth)
 
+-- a literal: a minus and a number
 unfoldable pub minusAt : List ℕ → Got → ReadLiteral
 minusAt s g =
     let minus = want T.Minus s g in
     let number = want T.Number s minus in
     literalOf number (Number (minus .start) (nameOf number) true)
 
+-- a literal: a number
 unfoldable pub numberAt : List ℕ → Got → ReadLiteral
 numberAt s g =
     let number = want T.Number s g in
     literalOf number (Number (number .start) (nameOf number) false)
 
+-- a literal: the name of a constant
 unfoldable pub namedAt : List ℕ → Got → ReadLiteral
 namedAt s g =
     let name = want T.Name s g in
     literalOf name (Named (nameOf name))
 
+-- a literal
 unfoldable pub literalAt : List ℕ → Got → ReadLiteral
 literalAt s g =
     cond (stands T.KeyTrue s (g .end)) (truthAt s g true) (
@@ -58,13 +64,16 @@ literalAt s g =
 
 -- ---- Port: a sensor's name, or task "." output. Arg: a port or a constant's name.
 
+-- a port that was read: a name, or two with a dot between
 abbrev pub portOf : Got → Got → Got → Bool → ReadPort
 portOf last first second dotted =
     record { bad = last .bad; start = last .start; end = last .end; port = record { first = nameOf first; second = nameOf second; dotted = dotted } }
 
+-- where a port that was read ends
 abbrev pub pastPort : ReadPort → Got
 pastPort read = got (read .bad) (read .start) (read .end)
 
+-- a port: a name, or task and port with a dot between
 unfoldable pub portAt : List ℕ → Got → ReadPort
 portAt s g =
     let name = want T.Name s g in
@@ -151,15 +160,19 @@ taskEndAt s g =
 
 -- ---- Mode
 
+-- the word before a mode's period
 abbrev pub period : List ℕ
 period = bytes "period"
 
+-- the word before a frequency
 abbrev pub freq : List ℕ
 freq = bytes "freq"
 
+-- the unit of milliseconds
 abbrev pub ms : List ℕ
 ms = bytes "ms"
 
+-- the unit of microseconds
 abbrev pub us : List ℕ
 us = bytes "us"
 
@@ -201,6 +214,7 @@ activityAt s k g =
 abbrev pub isPart : ℕ → Bool
 isPart c = cond (eqb c (codeOf T.Comma)) true (cond (eqb c (codeOf T.Name)) true (eqb c (codeOf T.Dot)))
 
+-- one more where the token is a comma
 abbrev pub comma : ℕ → ℕ → ℕ
 comma c n = cond (eqb c (codeOf T.Comma)) (suc n) n
 
@@ -214,6 +228,7 @@ commasIn (suc fuel) s at =
     let here = cond (isPart c) more 0 in
     cond (ltb at (length s)) here 0
 
+-- the commas in the run of names, dots and commas from a place on
 abbrev pub commasFrom : List ℕ → ℕ → ℕ
 commasFrom s at = commasIn (length s - at) s at
 

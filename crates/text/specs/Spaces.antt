@@ -58,12 +58,15 @@ unfoldable mutual
 abbrev pub spacesAt : List ℕ → ℕ → Skipped
 spacesAt s at = spaces (drop at s) at
 
+-- a line comment from a place on
 abbrev pub lineAt : List ℕ → ℕ → Skipped
 lineAt s at = line (drop at s) at
 
+-- a block comment from a place on
 abbrev pub blockAt : List ℕ → ℕ → ℕ → Skipped
 blockAt s at from = block (drop at s) at from
 
+-- where what was skipped ends
 abbrev pub placeOf : Skipped → ℕ
 placeOf (Stop at) = at
 placeOf (Open from) = from

@@ -107,6 +107,7 @@ signToken b =
     cond (eqb b (code "-")) T.Minus
     T.Bad))))))))))
 
+-- a token with its first place and the place behind it
 abbrev pub lexed : Token → ℕ → ℕ → Lexed
 lexed token start end = record { token = token; start = start; end = end }
 
@@ -129,6 +130,7 @@ startsAt s at =
     let token = tokenFrom s at (getD s at 0) in
     cond (ltb at (length s)) token (lexed T.End at at)
 
+-- the token behind white space and comments
 abbrev pub behind : List ℕ → Skipped → Lexed
 behind s (Stop at) = startsAt s at
 behind s (Open from) = lexed T.Bad from from
@@ -137,6 +139,7 @@ behind s (Open from) = lexed T.Bad from from
 unfoldable pub tokenAt : List ℕ → ℕ → Lexed
 tokenAt s at = behind s (spacesAt s at)
 
+-- the number of the token at a place
 abbrev pub codeAt : List ℕ → ℕ → ℕ
 codeAt s at = codeOf (tokenAt s at .token)
 
@@ -144,5 +147,6 @@ codeAt s at = codeOf (tokenAt s at .token)
 abbrev pub is : Token → Lexed → Bool
 is t lexed = eqb (codeOf (lexed .token)) (codeOf t)
 
+-- whether the token at a place is this one
 abbrev pub stands : Token → List ℕ → ℕ → Bool
 stands t s at = eqb (codeAt s at) (codeOf t)

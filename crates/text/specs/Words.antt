@@ -7,6 +7,7 @@ use lib.ListN.{getD, drop}
 use lib.Dec.{eqb, leb}
 use Rattle.model.specs.Bytes.{bytes}
 
+-- whether a byte lies between two bytes
 abbrev pub within : ℕ → ℕ → ℕ → Bool
 within low high b = cond (leb low b) (leb b high) false
 
@@ -14,6 +15,7 @@ within low high b = cond (leb low b) (leb b high) false
 abbrev pub letter : ℕ → Bool
 letter b = cond (within (code "A") (code "Z") b) true (cond (within (code "a") (code "z") b) true (eqb b (code "_")))
 
+-- whether a byte is a digit
 abbrev pub digit : ℕ → Bool
 digit b = within (code "0") (code "9") b
 
@@ -28,6 +30,7 @@ munch p (x ∷ xs) at =
     let on = munch p xs (at + 1) in
     cond (p x) on at
 
+-- the place behind the longest run from a place on
 abbrev pub munchAt : (ℕ → Bool) → List ℕ → ℕ → ℕ
 munchAt p s at = munch p (drop at s) at
 
@@ -36,6 +39,7 @@ unfoldable pub valueFrom : ℕ → List ℕ → ℕ
 valueFrom n [] = n
 valueFrom n (x ∷ xs) = valueFrom (n * 10 + (x - code "0")) xs
 
+-- the exact value of digits, however many
 abbrev pub value : List ℕ → ℕ
 value digits = valueFrom 0 digits
 
@@ -66,5 +70,6 @@ keywords =
     bytes "uses" ∷
     []
 
+-- the keyword of a number
 abbrev pub keyword : ℕ → List ℕ
 keyword k = getD keywords k []

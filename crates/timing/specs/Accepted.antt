@@ -29,6 +29,7 @@ abbrev pub Absent : ℕ → List (Act Call) → Type 0
 Absent t [] = Unit {0}
 Absent t (a ∷ rest) = (t ≢ a .what .task) × Absent t rest
 
+-- no task is invoked twice
 abbrev pub Distinct : List (Act Call) → Type 0
 Distinct [] = Unit {0}
 Distinct (a ∷ rest) = Absent (a .what .task) rest × Distinct rest
@@ -76,6 +77,7 @@ module _ (M : Module) where
 
 -- ---- a mode, and a module
 
+-- what the refusals leave of a mode
 pub record ModeFits (M : Module) (m : Mode) : Type 0 where
   pub lasting : Lasting m
   pub period : m .period ≤ periodRoom
@@ -85,6 +87,7 @@ pub record ModeFits (M : Module) (m : Mode) : Type 0 where
   pub distinct : Distinct (m .calls)
   pub leads : Each (Leads (m .period) (length (M .modes)) (m .calls)) (m .switches)
 
+-- what the refusals leave of a module
 pub record Accepted (M : Module) : Type 0 where
   pub modes : (k : ℕ) → k < length (M .modes) → ModeFits M (getD (M .modes) k noMode)
   pub start : startMode M < length (M .modes)

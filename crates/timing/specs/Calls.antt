@@ -29,6 +29,7 @@ pub record View : Type 0 where
   pub clock : ℕ
   pub stopped : Option ℕ
 
+-- a reply and what stands after it
 pub record Said : Type 0 where
   pub reply : Reply
   pub view : View

@@ -20,14 +20,17 @@ use Rattle.timing.specs.Orders.{among}
 use Rattle.timing.specs.Released.{beginningThere, updatedAt, Came, instant-came}
 use Rattle.timing.specs.PortLaws.{place-length, place-below, place-above, place-inside, copy-length, copy-below, copy-above, outputCount, task-ports-within, apart}
 
+-- the tasks that activities invoke
 abbrev pub tasksOf : List (Act Call) → List ℕ
 tasksOf acts = map (λ a. a .what .task) acts
 
+-- the actuators that activities update
 abbrev pub targetsOf : List (Act Update) → List ℕ
 targetsOf acts = map (λ a. a .what .target) acts
 
 -- ---- what is kept of a store: as many words as ports, and results aside as many as the task's outputs
 
+-- a finished task's results are as many as its outputs
 abbrev pub SizedOne : ℕ → Standing → Type 0
 SizedOne n idle = Unit {0}
 SizedOne n ready = Unit {0}

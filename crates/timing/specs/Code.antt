@@ -12,6 +12,7 @@ use Rattle.timing.specs.Rules.{nextInstant}
 
 -- ---- drivers: terminate for each task; then for each mode its updates and its releases
 
+-- the termination drivers, one for each task
 abbrev pub terminatesFrom : ℕ → List Task → List Driver
 terminatesFrom k [] = []
 terminatesFrom k (task ∷ tasks) = terminates k ∷ terminatesFrom (k + 1) tasks
@@ -19,6 +20,7 @@ terminatesFrom k (task ∷ tasks) = terminates k ∷ terminatesFrom (k + 1) task
 abbrev pub modeDrivers : Mode → List Driver
 modeDrivers m = map (λ a. updates (a .what .source) (a .what .target)) (m .updates) ++ map (λ a. releases (a .what .task) (a .what .sources)) (m .calls)
 
+-- the drivers of a module: terminations, then mode by mode updates and releases
 unfoldable pub driversOf : Module → List Driver
 driversOf M = terminatesFrom 0 (M .tasks) ++ each modeDrivers (M .modes)
 
@@ -27,6 +29,7 @@ pub record Driven (A : Type 0) : Type 0 where
   pub driver : ℕ
   pub does : A
 
+-- activities with their drivers' numbers, from a number on
 abbrev pub drivenFrom : {A : Type 0} → ℕ → List (Act A) → List (Act (Driven A))
 drivenFrom n [] = []
 drivenFrom n (a ∷ rest) = record { frequency = a .frequency; guard = a .guard; what = record { driver = n; does = a .what } } ∷ drivenFrom (n + 1) rest
@@ -35,11 +38,13 @@ drivenFrom n (a ∷ rest) = record { frequency = a .frequency; guard = a .guard;
 abbrev pub drivenUpdates : ℕ → Mode → List (Act (Driven Update))
 drivenUpdates n m = drivenFrom n (m .updates)
 
+-- a mode's invocations with their drivers' numbers, behind the updates'
 abbrev pub drivenCalls : ℕ → Mode → List (Act (Driven Call))
 drivenCalls n m = drivenFrom (n + length (m .updates)) (m .calls)
 
 -- ---- pieces of code, each a function of the place where it stands
 
+-- a piece of code, as a function of its place
 abbrev pub Piece : Type 0
 Piece = ℕ → List Instr
 
@@ -48,6 +53,7 @@ infixr 60 _⊕_
 abbrev pub _⊕_ : Piece → Piece → Piece
 _⊕_ p q pc = p pc ++ q (pc + length (p pc))
 
+-- code that does not depend on its place
 abbrev pub fixed : List Instr → Piece
 fixed instrs pc = instrs
 
@@ -56,6 +62,7 @@ abbrev pub guarded : Option ℕ → List Instr → Piece
 guarded none body pc = body
 guarded (some guard) body pc = iff guard (pc + suc (length body)) ∷ body
 
+-- the pieces of activities, one behind the other
 abbrev pub pieces : {A : Type 0} → (A → List Instr) → List (Act A) → Piece
 pieces body [] = fixed []
 pieces body (a ∷ rest) = guarded (a .guard) (body (a .what)) ⊕ pieces body rest
@@ -65,9 +72,11 @@ abbrev pub terminating : List (Act Call) → List Instr
 terminating [] = []
 terminating (a ∷ rest) = call (a .what .task) ∷ terminating rest
 
+-- what an update does
 abbrev pub updating : Driven Update → List Instr
 updating u = call (u .driver) ∷ []
 
+-- what a switch does
 abbrev pub switching : ℕ → List Instr
 switching target = switch target ∷ []
 
@@ -99,9 +108,11 @@ unfoldable pub instantsFrom : ℕ → Mode → ℕ → List ℕ
 instantsFrom zero m t = []
 instantsFrom (suc most) m t = elim (ltb (nextInstant m t) (m .period)) [ true ↦ nextInstant m t ∷ instantsFrom most m (nextInstant m t) | false ↦ [] ]
 
+-- the instants of a mode
 unfoldable pub instantsOf : Mode → List ℕ
 instantsOf m = instantsFrom (m .period) m 0
 
+-- the first of a list, or another
 abbrev pub firstOr : ℕ → List ℕ → ℕ
 firstOr n [] = n
 firstOr n (t ∷ ts) = t
@@ -128,8 +139,10 @@ unfoldable pub beginsFrom : ℕ → List Mode → ℕ → List ℕ
 beginsFrom n [] pc = []
 beginsFrom n (m ∷ ms) pc = pc ∷ beginsFrom (n + modeDriverCount m) ms (pc + length (modeCode n m pc))
 
+-- the code of a module
 unfoldable pub codeOf : Module → List Instr
 codeOf M = codeFrom (length (M .tasks)) (M .modes) 0
 
+-- the modes' begin places
 unfoldable pub beginsOf : Module → List ℕ
 beginsOf M = beginsFrom (length (M .tasks)) (M .modes) 0

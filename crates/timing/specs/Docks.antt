@@ -22,6 +22,7 @@ use Rattle.timing.specs.Reacts.{reacting}
 
 -- ---- answers, and what they are in the rules' words
 
+-- what a call answers
 pub data Answer : Type 0 where
   ticking : Reaction → Answer
   turning : Turn → Answer
@@ -40,6 +41,7 @@ replyTo (turning (T.Refused number)) = some (refused number)
 replyTo (finishing F.Taken) = some taken
 replyTo (finishing (F.Refused number)) = some (refused number)
 
+-- the answer to a fault
 abbrev pub answerTo : E.Fault → Reaction
 answerTo (E.late task) = Late task
 answerTo E.wild = Fault 41
@@ -54,6 +56,7 @@ refusal (finish task types words) number = finishing (F.Refused number)
 
 -- ---- a dock
 
+-- a dock that obeys the code over the rules' own store
 pub record Dock : Type 0 where
   pub clock : ℕ
   pub remaining : ℕ
@@ -62,16 +65,20 @@ pub record Dock : Type 0 where
   pub store : Store
   pub stopped : Option E.Fault
 
+-- an answer and the dock after it
 pub record Told : Type 0 where
   pub answer : Answer
   pub dock : Dock
 
+-- an answer that changes nothing
 abbrev pub tells : Dock → Answer → Told
 tells d answer = record { answer = answer; dock = d }
 
+-- the dock stopped by a fault, all else as before
 abbrev pub stoppedBy : E.Fault → Dock → Dock
 stoppedBy fault d = record { clock = d .clock; remaining = d .remaining; mode = d .mode; pc = d .pc; store = d .store; stopped = some fault }
 
+-- what a reaction came to
 abbrev pub cameTo : Dock → ℕ → Tally → Res (Halt Store) → Told
 cameTo d count tally (ok halt) =
     record {
@@ -80,6 +87,7 @@ cameTo d count tally (ok halt) =
     }
 cameTo d count tally (bad fault) = record { answer = ticking (answerTo fault); dock = stoppedBy fault d }
 
+-- the dock with other standings of its tasks
 abbrev pub withTasks : Dock → List Standing → Dock
 withTasks d tasks =
     record { clock = d .clock; remaining = d .remaining; mode = d .mode; pc = d .pc; store = record { ports = d .store .ports; tasks = tasks }; stopped = d .stopped }

@@ -34,6 +34,7 @@ change j t l x y e n i = go (ℕ-discrete j t)
     go (yes h) = absurd (n (sym e ∙ (rw h at i)))
     go (no h) = getD-set-other l t j y idle h ∙ i
 
+-- what every call keeps
 pub record Held (M : Module) (at : Place) : Type 0 where
   pub known : at .mode < length (M .modes)
   pub before : at .time < modeAt M (at .mode) .period

@@ -21,12 +21,14 @@ use Rattle.timing.specs.Twins.{Twin, Twins}
 
 -- ---- every task that is out is finished, task n with f n
 
+-- a task that is out is finished with results
 abbrev pub finishedWith : List ℕ → Standing → Standing
 finishedWith x idle = idle
 finishedWith x ready = done x
 finishedWith x running = done x
 finishedWith x (done y) = done y
 
+-- every task that is out is finished with its results
 abbrev pub settle : (ℕ → List ℕ) → ℕ → List Standing → List Standing
 settle f n [] = []
 settle f n (a ∷ l) = finishedWith (f n) a ∷ settle f (suc n) l
@@ -42,6 +44,7 @@ settle-length f n (a ∷ l) = ap suc (settle-length f (suc n) l)
 
 -- ---- idle, or finished with x; or just released
 
+-- a task is not out, or is finished with these results
 abbrev pub KeptOne : List ℕ → Standing → Type 0
 KeptOne x idle = Unit {0}
 KeptOne x ready = ⊥
@@ -58,6 +61,7 @@ PartOne x new (done y) = (new ≡ false) × (y ≡ x)
 abbrev pub Kept : (ℕ → List ℕ) → List Standing → Type 0
 Kept f l = (j : ℕ) → KeptOne (f j) (getD l j idle)
 
+-- each task has its results, or is new
 abbrev pub Part : (ℕ → List ℕ) → (ℕ → Bool) → List Standing → Type 0
 Part f new l = (j : ℕ) → PartOne (f j) (new j) (getD l j idle)
 

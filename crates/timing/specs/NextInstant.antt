@@ -18,6 +18,7 @@ abbrev pub someEnds : {A : Type 0} → ℕ → ℕ → List (Act A) → Bool
 someEnds period t [] = false
 someEnds period t (act ∷ acts) = endsAt period t act || someEnds period t acts
 
+-- whether a slot of the mode ends at a time
 abbrev pub slotEnds : Mode → ℕ → Bool
 slotEnds m t = someEnds (m .period) t (m .calls) || (someEnds (m .period) t (m .updates) || someEnds (m .period) t (m .switches))
 

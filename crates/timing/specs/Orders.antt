@@ -9,6 +9,7 @@ use Rattle.timing.specs.Rules.{Place}
 use Rattle.timing.specs.Calls.{Ask, tick, next, finish, Reply, waits, reacted, refused, fell, given, taken, View, ask, comes}
 use Rattle.timing.specs.Standings.{whichOut}
 
+-- whether a number is one of these
 abbrev pub among : ℕ → List ℕ → Bool
 among j [] = false
 among j (t ∷ ts) = eqb j t || among j ts
@@ -17,6 +18,7 @@ among j (t ∷ ts) = eqb j t || among j ts
 abbrev pub stamped : ℕ → List ℕ → (ℕ → ℕ) → ℕ → ℕ
 stamped i released since j = cond (among j released) i (since j)
 
+-- since when a task is out
 abbrev pub stampedBy : Reply → ℕ → List ℕ → (ℕ → ℕ) → ℕ → ℕ
 stampedBy waits i released since = since
 stampedBy reacted i released since = stamped (suc i) released since
@@ -41,9 +43,11 @@ pub record Shown : Type 0 where
   pub out : List ℕ
   pub released : List ℕ
 
+-- what is shown
 abbrev pub showing : Place → Shown
 showing at = record { mode = at .mode; ports = at .store .ports; out = whichOut (at .store .tasks); released = at .released }
 
+-- what was shown so far
 abbrev pub logged : Reply → Shown → List Shown → List Shown
 logged waits now log = log
 logged reacted now log = now ∷ log

@@ -34,6 +34,7 @@ modeIn ms k = getD ms k noMode
 abbrev pub codeIn : ℕ → List Mode → ℕ → ℕ → List Instr
 codeIn n ms pc k = modeCode (getD (basesFrom n ms) k 0) (modeIn ms k) (getD (beginsFrom n ms pc) k 0)
 
+-- the length of a mode's code
 abbrev pub size : ℕ → List Mode → ℕ → ℕ → ℕ
 size n ms pc k = length (codeIn n ms pc k)
 

@@ -26,6 +26,7 @@ pub data Outcome (A : Type 0) : Type 0 where
   well : A → Outcome A
   late : ℕ → Outcome A
 
+-- on with what went well, or the lateness
 abbrev pub andThen : {A B : Type 0} → Outcome A → (A → Outcome B) → Outcome B
 andThen (well a) next = next a
 andThen (late task) next = late task
@@ -37,6 +38,7 @@ pub record Place : Type 0 where
   pub store : Store
   pub released : List ℕ
 
+-- what stands where no mode is
 abbrev pub noMode : Mode
 noMode = record { name = []; start = false; period = 1; calls = []; updates = []; switches = [] }
 

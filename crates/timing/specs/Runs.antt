@@ -22,6 +22,7 @@ use Rattle.timing.specs.Stands.{resOf, standing, driven, driverAt, stand
 abbrev pub plain : {A : Type 0} → Act (Driven A) → Act A
 plain a = record { frequency = a .frequency; guard = a .guard; what = a .what .does }
 
+-- activities without their drivers' numbers
 abbrev pub plainAll : {A : Type 0} → List (Act (Driven A)) → List (Act A)
 plainAll [] = []
 plainAll (a ∷ rest) = plain a ∷ plainAll rest

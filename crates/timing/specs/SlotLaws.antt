@@ -14,6 +14,7 @@ abbrev pub Ordered : ℕ → List Span → ℕ → Type 0
 Ordered lo [] hi = lo ≤ hi
 Ordered lo (span ∷ rest) hi = (lo ≤ span .from) × (span .from < span .to) × Ordered (span .to) rest hi
 
+-- an activity's slots follow one another inside the period
 pub record Fits {A : Type 0} (period : ℕ) (act : Act A) : Type 0 where
   pub ordered : Ordered 0 (spans period act) period
 
@@ -34,6 +35,7 @@ each-keep C f (a ∷ l) e = go (f a) (each-keep C f l (e .1))
     go true r = (e .0, r)
     go false r = r
 
+-- so for every activity
 abbrev pub AllFit : {A : Type 0} → ℕ → List (Act A) → Type 0
 AllFit period acts = Each (Fits period) acts
 

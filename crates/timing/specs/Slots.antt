@@ -19,6 +19,7 @@ slotsFrom size (suc n) i = record { from = i * size; to = (i + 1) * size } ∷ s
 unfoldable pub spans : {A : Type 0} → ℕ → Act A → List Span
 spans period act = slotsFrom (period / act .frequency) (act .frequency) 0
 
+-- whether one of the slots passes
 abbrev pub anyOf : (Span → Bool) → List Span → Bool
 anyOf test [] = false
 anyOf test (span ∷ rest) = test span || anyOf test rest
@@ -27,12 +28,15 @@ anyOf test (span ∷ rest) = test span || anyOf test rest
 abbrev pub spanEnds : ℕ → Span → Bool
 spanEnds t span = eqb t (span .to)
 
+-- whether a slot begins at a time
 abbrev pub spanBegins : ℕ → Span → Bool
 spanBegins t span = eqb t (span .from)
 
+-- whether a time lies in a slot, its beginning included
 abbrev pub spanLive : ℕ → Span → Bool
 spanLive t span = leb (span .from) t && ltb t (span .to)
 
+-- whether a time lies inside a slot, its ends excluded
 abbrev pub spanAmid : ℕ → Span → Bool
 spanAmid t span = ltb (span .from) t && ltb t (span .to)
 
@@ -40,12 +44,15 @@ spanAmid t span = ltb (span .from) t && ltb t (span .to)
 abbrev pub endsAt : {A : Type 0} → ℕ → ℕ → Act A → Bool
 endsAt period t act = anyOf (spanEnds t) (spans period act)
 
+-- whether a slot of the activity begins at a time
 abbrev pub beginsAt : {A : Type 0} → ℕ → ℕ → Act A → Bool
 beginsAt period t act = anyOf (spanBegins t) (spans period act)
 
+-- whether a slot of the activity is live at a time
 abbrev pub liveAt : {A : Type 0} → ℕ → ℕ → Act A → Bool
 liveAt period t act = anyOf (spanLive t) (spans period act)
 
+-- whether a time is amid a slot of the activity
 abbrev pub amidAt : {A : Type 0} → ℕ → ℕ → Act A → Bool
 amidAt period t act = anyOf (spanAmid t) (spans period act)
 
@@ -53,14 +60,17 @@ amidAt period t act = anyOf (spanAmid t) (spans period act)
 abbrev pub sooner : ℕ → ℕ → ℕ → ℕ
 sooner t instant n = cond (ltb t instant) (min n instant) n
 
+-- the first end after a time, or another
 abbrev pub nextOn : ℕ → List Span → ℕ → ℕ
 nextOn t [] n = n
 nextOn t (span ∷ rest) n = nextOn t rest (sooner t (span .to) n)
 
+-- the first end after a time of all activities, or another
 abbrev pub soonest : {A : Type 0} → ℕ → ℕ → List (Act A) → ℕ → ℕ
 soonest period t [] n = n
 soonest period t (act ∷ acts) n = soonest period t acts (nextOn t (spans period act) n)
 
+-- those that pass
 abbrev pub keep : {A : Type 0} → (A → Bool) → List A → List A
 keep test [] = []
 keep test (a ∷ rest) =
@@ -71,5 +81,6 @@ keep test (a ∷ rest) =
 abbrev pub closing : {A : Type 0} → ℕ → ℕ → List (Act A) → List (Act A)
 closing period t acts = keep (endsAt period t) acts
 
+-- the activities whose slot begins at a time
 abbrev pub opening : {A : Type 0} → ℕ → ℕ → List (Act A) → List (Act A)
 opening period t acts = keep (beginsAt period t) acts

@@ -18,14 +18,17 @@ isOut ready = 1
 isOut running = 1
 isOut (done results) = 1
 
+-- the tasks that are out
 abbrev pub whichOut : List Standing → List ℕ
 whichOut [] = []
 whichOut (x ∷ l) = isOut x ∷ whichOut l
 
+-- how many count
 abbrev pub howMany : (Standing → ℕ) → List Standing → ℕ
 howMany counts [] = 0
 howMany counts (x ∷ l) = counts x + howMany counts l
 
+-- how many tasks are out
 abbrev pub howManyOut : List Standing → ℕ
 howManyOut l = howMany isOut l
 

@@ -14,6 +14,7 @@ use Rattle.timing.specs.Code.{driversOf}
 use Rattle.machine.specs.Instructions as E
 use Rattle.machine.specs.Instructions.{Res, ok, bad, clash, Ops}
 
+-- what the rules say, as the machine's result
 abbrev pub resOf : {A : Type 0} → Outcome A → Res A
 resOf (well a) = ok a
 resOf (late task) = bad (E.late task)

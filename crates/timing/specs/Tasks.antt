@@ -21,13 +21,16 @@ use Rattle.machine.specs.Instructions.{counted, exec}
 use Rattle.timing.specs.Stands.{driverAt, standOps, acts, update, withPorts}
 use Rattle.timing.specs.Runs.{Does, stepped, weaken, all, plainAll}
 
+-- a task is not out
 abbrev pub Idle : Store → ℕ → Type 0
 Idle s t = getD (s .tasks) t idle ≡ idle
 
+-- no task invoked is out
 abbrev pub AllIdle : List (Act Call) → Store → Type 0
 AllIdle [] s = Unit {0}
 AllIdle (a ∷ rest) s = Idle s (a .what .task) × AllIdle rest s
 
+-- tasks invoked once, none of them out
 abbrev pub Free : List (Act Call) → Store → Type 0
 Free rest s = Distinct rest × AllIdle rest s
 
@@ -38,6 +41,7 @@ set-free (a ∷ rest) s ports t v h i = (getD-set-other (s .tasks) t (a .what .t
 
 -- ---- releases
 
+-- an invocation's driver is its release
 abbrev pub Releases : Module → Act (Driven Call) → Type 0
 Releases M a = driverAt M (a .what .driver) ≡ releases (a .what .does .task) (a .what .does .sources)
 

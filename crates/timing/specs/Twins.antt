@@ -30,6 +30,7 @@ Twin (done x) ready = ⊥
 Twin (done x) running = ⊥
 Twin (done x) (done y) = x ≡ y
 
+-- two stores with the same ports and standings alike
 abbrev pub Twins : Store → Store → Type 0
 Twins s q = Rel (λ j. Twin) s q
 
