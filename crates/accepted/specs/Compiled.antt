@@ -13,7 +13,9 @@ use Rattle.refusals.specs.Texts.{allRules, verdictOf, moduleOf}
 use Rattle.prescribed.specs.Tables.{tableOf}
 use Rattle.prescribed.specs.Compiles.{file, fileOf, compileOf}
 use Rattle.prescribed.specs.Acceptance.{Unbroken, accepts}
+use Rattle.timing.specs.PortsAfter.{Aimed}
 use Rattle.accepted.specs.Accepts.{accepted}
+use Rattle.accepted.specs.Aims.{aimed}
 use Rattle.accepted.specs.TableSound.{table-sound}
 
 -- no rule of 4 to 12 has a cause: the verdict is fine
@@ -23,6 +25,9 @@ unbroken-fine text h = leftmost-unique (allRules text) (verdictOf text) Fine (ve
 module _ (text : List ℕ) (room : ℕ) (content : List ℕ) (written : compileOf text room ≡ file content) where
   pub compiled-accepted : Accepted (moduleOf text)
   compiled-accepted = let a = accepts text room content written in accepted text (a .readable .syntax) (unbroken-fine text (a .unbroken))
+
+  pub compiled-aimed : Aimed (moduleOf text)
+  compiled-aimed = let a = accepts text room content written in aimed text (a .readable .syntax) (unbroken-fine text (a .unbroken))
 
   pub compiled-sound : sound (tableOf (moduleOf text)) ≡ true
   compiled-sound = let a = accepts text room content written in table-sound text (a .readable .syntax) (unbroken-fine text (a .unbroken)) (a .code-fits)

@@ -28,3 +28,4 @@ pub mod TableRefers
 pub mod TableHolds
 pub mod TableSound
 pub mod Compiled
+pub mod Aims

@@ -7,20 +7,13 @@ use mathlib.Core.List.{List, [], _∷_, _++_}
 use lib.ListN.{getD, drop}
 use Rattle.model.specs.Instructions.{Instr, nop, future, call, release, iff, jump, return, switch}
 use Rattle.machine.specs.Instructions.{Fault, wild, astray, Res, ok, bad, Ops, Future, Tally, counted, step, Halt, Run, fail, goOn, only, leave, exec}
+use Rattle.timing.specs.SlotLaws.{Each}
 
 -- of every element of a list
-abbrev pub All : {A : Type 0} → (A → Type 0) → List A → Type 0
-All Q [] = Unit {0}
-All Q (a ∷ l) = Q a × All Q l
-
-pub all-drop : {A : Type 0} (Q : A → Type 0) (e : ℕ) (l : List A) → All Q l → All Q (drop e l)
+pub all-drop : {A : Type 0} (Q : A → Type 0) (e : ℕ) (l : List A) → Each Q l → Each Q (drop e l)
 all-drop Q zero l h = h
 all-drop Q (suc e) [] h = tt
 all-drop Q (suc e) (a ∷ l) h = all-drop Q e l (h .1)
-
-pub all-append : {A : Type 0} (Q : A → Type 0) (l r : List A) → All Q l → All Q r → All Q (l ++ r)
-all-append Q [] r h k = k
-all-append Q (a ∷ l) r h k = (h .0, all-append Q l r (h .1) k)
 
 module _ {S T : Type 0} (view : S → T) (Good : S → Type 0) where
   abbrev pub Both : Res S → Res T → Type 0
@@ -63,12 +56,12 @@ module _ {S T : Type 0} (view : S → T) (Good : S → Type 0) where
   leaves none n k s i = failed astray
   leaves (some u) n k s i = record { ends = (refl, i); tally = refl }
 
-  either : (Q : Instr → Type 0) (y : Bool) (l r : List Instr) → All Q l → All Q r → All Q (cond y l r)
+  either : (Q : Instr → Type 0) (y : Bool) (l r : List Instr) → Each Q l → Each Q r → Each Q (cond y l r)
   either Q true l r a b = a
   either Q false l r a b = b
 
-  module _ (O : Ops S) (P : Ops T) (Q : Instr → Type 0) (K : Keeps O P Q) (begins other : List ℕ) (B : (j : ℕ) → getD begins j 0 ≡ getD other j 0) (code : List Instr) (A : All Q code) where
-    pub runs : (f : ℕ) (l : List Instr) (k : ℕ) (u : Option Future) (n : Tally) (s : S) → All Q l → Good s → Same (exec O begins code f l k u n s) (exec P other code f l k u n (view s))
+  module _ (O : Ops S) (P : Ops T) (Q : Instr → Type 0) (K : Keeps O P Q) (begins other : List ℕ) (B : (j : ℕ) → getD begins j 0 ≡ getD other j 0) (code : List Instr) (A : Each Q code) where
+    pub runs : (f : ℕ) (l : List Instr) (k : ℕ) (u : Option Future) (n : Tally) (s : S) → Each Q l → Good s → Same (exec O begins code f l k u n s) (exec P other code f l k u n (view s))
     unfolding exec
     runs zero l k u n s q i = failed wild
     runs (suc f) [] k u n s q i = failed wild

@@ -137,15 +137,16 @@ module _ (M : Module) (W : Accepted M) where
   begun count types words = start (tableOf M) count types words .state
 
   module _ (count : ℕ) (types words : List ℕ) (S : Started count types words) where
-    first : Agrees M (record { answer = ticking (start (tableOf M) count types words .answer); state = begun count types words }) (startedDock M count words)
+    pub first : Agrees M (record { answer = ticking (start (tableOf M) count types words .answer); state = begun count types words }) (startedDock M count words)
     unfolding startedDock
     first =
         subst (λ (t : Ticked). Agrees M (record { answer = ticking (t .answer); state = t .state }) (D.reactedAt M (newDock M count) count words)) (sym (start-is count types words S))
         (subst (λ (d : Dock). Agrees M (record { answer = ticking (reacted (board M) (fresh (board M) count) count words .answer); state = reacted (board M) (fresh (board M) count) count words .state }) (D.reactedAt M d count words)) (begins count)
         (reacted-same M W (fresh (board M) count) (held-fresh count) refl count words))
 
-    -- FAITHFUL. After the start and any list of calls: every answer is the rules', and the machine shows what the rules show.
+    -- FAITHFUL. After the start and any list of calls: every answer is the rules', and the machine shows what the rules show; how many instructions a reaction took is what the prescribed code takes, obeyed on the rules' own store.
     pub record Shows (rest : List Ask) : Type 0 where
+      pub counts-are : machineAnswers M rest (begun count types words) ≡ answers M rest (startedDock M count words .dock)
       pub answers-are : map replyTo (machineAnswers M rest (begun count types words)) ≡ map some (replies M rest (started M count words))
       pub pc : ℕ
       pub shown : dockOf M (machineLeaves M rest (begun count types words)) ≡ shadow M (comes M rest (started M count words)) pc
@@ -154,7 +155,7 @@ module _ (M : Module) (W : Accepted M) where
     faithful rest =
         let h = histories-agree M W count words rest in
         let a : Along M rest (begun count types words) (startedDock M count words .dock) = subst (Along M rest (begun count types words)) (first .shows) (along rest (begun count types words) (first .held)) in
-        record { answers-are = ap (map replyTo) (a .same-answers) ∙ h .same-answers; pc = h .pc; shown = a .same-dock ∙ h .same-view }
+        record { counts-are = a .same-answers; answers-are = ap (map replyTo) (a .same-answers) ∙ h .same-answers; pc = h .pc; shown = a .same-dock ∙ h .same-view }
 
     -- The start itself is a reaction of the rules.
     pub start-reacts : replyTo (ticking (start (tableOf M) count types words .answer)) ≡ some C.reacted

@@ -33,7 +33,7 @@ use Rattle.timing.specs.Stands as S
 use Rattle.timing.specs.Standings.{isOut}
 use Rattle.timing.specs.Stands.{standOps}
 use Rattle.bridge.specs.Boards.{board, board-code, board-driver, board-guard, board-begin, board-lot}
-use Rattle.bridge.specs.Carried.{All, all-drop, Both, Keeps, Same, runs}
+use Rattle.bridge.specs.Carried.{all-drop, Both, Keeps, Same, runs}
 use Rattle.bridge.specs.Sane.{Sane, code-sane}
 use Rattle.bridge.specs.Views.{take-set, take-place, take-copy, standOf, Fitting, fitting-done, tasks, resultsOf, rowOf, standAt, standings, view, Neat, stands-at, begun-tasks, ended-tasks, begun-neat, ended-neat}
 

@@ -7,4 +7,10 @@ pub mod Kept
 pub mod Asides
 pub mod Docked
 pub mod Faithful
+pub mod Beside
+pub mod Promises
+pub mod PortsKept
+pub mod LaterOnly
+pub mod ReleasesKept
+pub mod OrderKept
 pub mod FromText
