@@ -5,3 +5,4 @@ pub mod Fields
 pub mod Forms
 pub mod WholeNames
 pub mod NameLaws
+pub mod CellLaws

@@ -10,11 +10,11 @@ use borrow.Author.Tests.{leb-true}
 use mathlib.Core.List.{List, [], _∷_, _++_}
 use lib.ListN.{length, getD, set, take, drop}
 use lib.Seq.{slice, slice-empty, slice-cons, take-nil, take-suc, take-all, length-take-le, getD-drop, getD-take}
-use Rattle.codec.specs.Readings.{Reading, got, no, andThen, andThen-got, orNo-got}
+use Rattle.codec.specs.Readings.{got, no, andThen-got, orNo-got}
 use Rattle.codec.specs.Codecs.{Codec}
 use Rattle.codec.specs.Numbers.{byte, byte-at, byte-missing}
 use Rattle.codec.specs.Views.{check, viewGet, whenTrue, whenTrue-some, check-no, check-fails, check-got}
-use Rattle.codec.specs.Lists.{manyGet, list, list-no, list-on}
+use Rattle.codec.specs.Lists.{manyGet, list-no, list-on}
 use Rattle.text.specs.Words.{within}
 use Rattle.file.specs.Names.{goodName, name}
 use Rattle.layout.specs.Rows.{nameCells}

@@ -1,18 +1,16 @@
 -- How readings go on, said once for every reader.
-use Prim.Native.Nat.{ℕ, zero, suc, _+_, _-_, _≤_, _<_}
+use Prim.Native.Nat.{ℕ, zero, suc, _-_, _≤_, _<_}
 use native.Mathlib.Omega.{arith}
 use mathlib.Core.Path.{_≡_, refl, sym, ap, _∙_}
 use mathlib.Core.Bool.{Bool, true, false, cond}
-use mathlib.Core.List.{List, [], _∷_}
+use mathlib.Core.List.{List}
 use mathlib.Core.Logic.{_⊎_, inl, inr}
-use lib.ListN.{length, drop}
+use lib.ListN.{drop}
 use Rattle.codec.specs.Readings.{Reading, got, no, andThen}
 use Rattle.codec.specs.Codecs.{Codec}
 use Rattle.codec.specs.Sequences.{dep, depGet}
-use Rattle.codec.specs.Views.{shape, check, viewGet, shape-on, check-no, check-got, check-fails}
-use Rattle.codec.specs.Lists.{runGet, running, running-no, running-on}
-use Rattle.layout.specs.Filling.{fill}
-use Rattle.fields.specs.Taking.{Point, at, reached, taken, Takes, kept, ahead, Left, Runs}
+use Rattle.codec.specs.Views.{shape, check, shape-on, check-no, check-got, check-fails}
+use Rattle.fields.specs.Taking.{Point, at, reached, taken, Takes, kept}
 
 -- ---- a reading, by its refusal
 

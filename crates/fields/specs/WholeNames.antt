@@ -1,14 +1,14 @@
 -- Some bytes are a name where the scanner takes all of them for one.
-use Prim.Native.Nat.{ℕ, zero, suc, _+_, _≤_, _<_}
+use Prim.Native.Nat.{ℕ, zero, suc, _+_, _≤_}
 use Prim.Native.Char.{code}
 use native.Mathlib.Omega.{arith}
 use mathlib.Core.Path.{_≡_, refl, sym, ap, _∙_}
 use mathlib.Core.Bool.{Bool, true, false, cond, _&&_, not}
 use mathlib.Core.List.{List, [], _∷_}
-use lib.Dec.{eqb, leb, ltb}
-use lib.ListN.{length, getD, drop, List·getD-eq-default}
+use lib.Dec.{eqb, ltb}
+use lib.ListN.{length, getD, List·getD-eq-default}
 use lib.Seq.{slice, take-length}
-use borrow.Author.Tests.{eqb-true, eqb-false, eq-eqb, ne-eqb, ltb-false, ltb-true, lt-ltb, le-ltb}
+use borrow.Author.Tests.{eqb-false, eq-eqb, ne-eqb, ltb-false, ltb-true, lt-ltb, le-ltb}
 use Rattle.codec.specs.Codecs.{and-left, and-right, and-both}
 use Rattle.model.specs.Bytes.{placeIn}
 use Rattle.text.specs.declared.Skipped.{Skipped}
@@ -17,10 +17,9 @@ use Rattle.text.specs.declared.Token.{Token}
 use Rattle.text.specs.declared.Token.the-variants as Token
 use Rattle.text.specs.Spaces.{white, spacesAt, spaces}
 use Rattle.text.specs.SpacesLaws.{spaces-other}
-use Rattle.text.specs.Words.{within, letter, digit, wordByte, munch, munchAt, keywords}
-use Rattle.text.specs.WordsLaws.{munch-end, munch-on, munch-out}
+use Rattle.text.specs.Words.{letter, digit, wordByte, munch, munchAt, keywords}
 use Rattle.text.specs.Tokens.{codeOf, keyTokens, keyToken, wordToken, signToken, lexed, becomes, tokenFrom, startsAt, behind, tokenAt}
-use Rattle.text.specs.StartsLaws.{starts-word, starts-number, starts-becomes, starts-sign}
+use Rattle.text.specs.StartsLaws.{starts-word}
 use Rattle.file.specs.Parts.{allIn}
 use Rattle.file.specs.Names.{nameBytes, isKeyword, goodName}
 

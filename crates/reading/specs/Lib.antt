@@ -1,0 +1,11 @@
+pub mod Readings
+pub mod Stages
+pub mod Joining
+pub mod Rowing
+pub mod RestRows
+pub mod PortRows
+pub mod OutputRows
+pub mod TaskRows
+pub mod Whole
+pub mod Tabled
+pub mod Framing
