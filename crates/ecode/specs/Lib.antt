@@ -1,0 +1,3 @@
+pub mod Filed
+pub mod Sound
+pub mod Theorems

@@ -1,0 +1,10 @@
+pub mod Parts
+pub mod NameLaws
+pub mod Ports
+pub mod Tasks
+pub mod TaskLaws
+pub mod Drivers
+pub mod Modes
+pub mod Guards
+pub mod ByteLaws
+pub mod Whole

@@ -1,0 +1,48 @@
+// Bytes and numbers, the highest byte first.
+ghost use mathlib.Core.Path.{_≡_};
+ghost use mathlib.Core.List.{[], _∷_};
+ghost use Prim.Native.Nat.{min};
+ghost use Rattle.writing.specs.Puts.{Puts};
+ghost use Rattle.writing.specs.Cells.{byteOf, pairOf, quadOf};
+
+// A byte, and the place behind it; nothing behind the end of the buffer.
+pub(crate) fn put(buffer: &mut [u8], at: usize, number: u8) -> usize
+    ensures { λ r. ⌜ Puts (now (buffer .entry)) at (byteOf number) (now (buffer .exit)) r ⌝ }
+{
+    if at < buffer.len() {
+        buffer[at] = number;
+        return at + 1;
+    }
+    at
+}
+
+pub(crate) fn byte(buffer: &mut [u8], at: usize, number: u32) -> usize
+    ensures { λ r. ⌜ Puts (now (buffer .entry)) at (byteOf number) (now (buffer .exit)) r ⌝ }
+{
+    put(buffer, at, (number % 256) as u8)
+}
+
+pub(crate) fn pair(buffer: &mut [u8], at: usize, number: u32) -> usize
+    ensures { λ r. ⌜ Puts (now (buffer .entry)) at (pairOf number) (now (buffer .exit)) r ⌝ }
+{
+    let next = byte(buffer, at, number / 256);
+    byte(buffer, next, number)
+}
+
+pub fn quad(buffer: &mut [u8], at: usize, number: u32) -> usize
+    ensures { λ r. ⌜ Puts (now (buffer .entry)) at (quadOf number) (now (buffer .exit)) r ⌝ }
+{
+    let next = pair(buffer, at, number / 65536);
+    pair(buffer, next, number)
+}
+
+// A number that is over its room: the room.
+pub(crate) fn few(number: u32, room: usize) -> usize
+    ensures { λ r. ⌜ r ≡ min number room ⌝ }
+{
+    let all = cells::wide32(number);
+    if all < room {
+        return all;
+    }
+    room
+}
