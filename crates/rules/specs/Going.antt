@@ -1,0 +1,200 @@
+-- Where the pass stands in a text, and its turns: an item is judged, and what it declares and does is entered.
+use Prim.Native.Nat.{ℕ, _+_, _≤_, _<_}
+use native.Mathlib.Omega.{arith}
+use mathlib.Core.Path.{_≡_, refl, sym, ap, _∙_}
+use mathlib.Core.List.{List, [], _∷_, _++_, append-nil, map}
+use mathlib.Core.Bool.{Bool, true, false}
+use lib.ListN.{length}
+use Rattle.text.specs.declared.State.{State}
+use Rattle.text.specs.declared.State.the-variants as Q
+use Rattle.text.specs.declared.Item.{Item}
+use Rattle.text.specs.declared.ReadItem.{ReadItem}
+use Rattle.text.specs.Items.{itemAt, goes, itemsFrom, itemsOf}
+use Rattle.text.specs.ItemsLaws.{from-on, from-stop}
+use Rattle.text.specs.Advance.{item-ahead}
+use Rattle.model.specs.Rooms.{activityRoom}
+use Rattle.refusals.specs.declared.Row.{Row}
+use Rattle.refusals.specs.declared.Verdict.{Verdict}
+use Rattle.refusals.specs.declared.Verdict.the-variants.{Fine, No}
+use Rattle.refusals.specs.Checks.{first, isFine}
+use Rattle.refusals.specs.ChecksLaws.{first-on, first-stop}
+use Rattle.refusals.specs.Names.{count}
+use Rattle.refusals.specs.NamesLaws.{Sorted, rows-sorted}
+use Rattle.refusals.specs.Declarations.{declares, rowsAfter}
+use Rattle.refusals.specs.Draft.{blank}
+use Rattle.refusals.specs.Rules.{Env, nothing, grow, rules, rulesFrom, envAfter}
+use Rattle.refusals.specs.Texts.{declaredBy, verdictOf}
+use Rattle.accepted.specs.Steps.{Comes, item-comes}
+use Rattle.accepted.specs.RowsFit.{RowsFit, fitting}
+use Rattle.names.specs.Tables.{rowsFrom, rowsIn}
+use Rattle.meanings.specs.Held.{rowsOf, heldRow}
+use Rattle.meanings.specs.declared.declaring.Declaration.{Declaration}
+use Rattle.noting.specs.declared.Known.{Known}
+use Rattle.noting.specs.Known.{nothingKnown, notedBy}
+use Rattle.noting.specs.Laying.{Laid, Entered}
+use Rattle.noting.specs.Filled.{emptyTable, tableOf, table-none, empty-long}
+use Rattle.noting.specs.Rowed.{Rowed, rowed-size, rows-room, joins, rowed-on}
+use Rattle.noting.specs.Drafted.{Drafted, drafted-on, drafted-first}
+use Rattle.targets.specs.AheadLaws.{goes-plain, stop-quiet}
+use Rattle.rules.specs.Meets.{Meets}
+use Rattle.rules.specs.declared.Judged.{Judged}
+use Rattle.rules.specs.declared.Turn.{Turn}
+use Rattle.rules.specs.declared.Turn.the-variants.{Stop, On}
+
+-- the names that a text declares
+abbrev pub allNames : List ℕ → List Row
+allNames s = declaredBy s (itemsOf s)
+
+-- the items before a place broke no rule; what they tell is held, and the rest decides
+pub record Going (s : List ℕ) (state : State) (at : ℕ) (cells : List ℕ) (n : ℕ) (known : Known) (rates tasks aims : List ℕ) : Type 0 where
+  pub env : Env
+  pub within : at ≤ length s
+  pub left : verdictOf s ≡ first (rulesFrom s (allNames s) env (itemsFrom s state at))
+  pub declared : allNames s ≡ rowsAfter s (env .rows) (itemsFrom s state at)
+  pub rowed : Rowed (env .rows) cells n
+  pub drafted : Drafted state (env .rows) (env .draft) known rates tasks aims
+
+-- the array and the number of its rows are the table of these names
+pub record Tabled (names : List Row) (cells : List ℕ) (n : ℕ) : Type 0 where
+  pub rows : rowsIn cells n ≡ names
+  pub size : n ≡ length names
+  pub table : cells ≡ tableOf names
+
+-- the answer of the pass, and with a fine one the names of the whole text
+pub record Answered (s : List ℕ) (verdict : Verdict) (cells : List ℕ) (n : ℕ) : Type 0 where
+  pub leftmost : verdict ≡ verdictOf s
+  pub names : verdict ≡ Fine → Tabled (allNames s) cells n
+
+-- a turn of the pass: it answers, or it stands further on
+abbrev pub Turned : List ℕ → ℕ → Turn → List ℕ → List ℕ → List ℕ → List ℕ → Type 0
+Turned s from (Stop verdict n) cells rates tasks aims = Answered s verdict cells n
+Turned s from (On state at n known) cells rates tasks aims = (from < at) × Going s state at cells n known rates tasks aims
+
+-- the table without names, and arrays for the activities of a mode
+pub record Spread (cells rates tasks aims : List ℕ) : Type 0 where
+  pub no-names : cells ≡ emptyTable
+  pub long-rates : length rates ≡ activityRoom
+  pub long-tasks : length tasks ≡ activityRoom
+  pub long-aims : length aims ≡ activityRoom
+
+pub begins : (s : List ℕ) {cells rates tasks aims : List ℕ} → Spread cells rates tasks aims → Going s Q.Begin 0 cells 0 nothingKnown rates tasks aims
+unfolding rowsFrom count
+begins s {cells} {rates} {tasks} {aims} l =
+    record {
+      env = nothing;
+      within = omega arith;
+      left = refl;
+      declared = refl;
+      rowed = record { same = refl; table = l .no-names ∙ sym table-none; long = rw (l .no-names) empty-long; roomy = record { room = λ sort. omega arith }; fits = tt; sorted = tt };
+      drafted = drafted-first blank rates tasks aims refl refl refl (l .long-rates) (l .long-tasks) (l .long-aims);
+    }
+
+module _ {s : List ℕ} {state : State} {at : ℕ} {cells : List ℕ} {n : ℕ} {known : Known} {rates tasks aims : List ℕ} (g : Going s state at cells n known rates tasks aims) (read : ReadItem) (p : read ≡ itemAt s state at) where
+  comes-so : goes (read .item) ≡ true → Comes s state at (read .item) (read .state) (read .next)
+  comes-so e = rw p (item-comes s state at (goes-plain (itemAt s state at .item) (rw p at e)))
+
+  module _ {ratesThen tasksThen aimsThen : List ℕ} (l : Laid s (rowsIn cells n) known (read .item) rates tasks aims ratesThen tasksThen aimsThen) where
+    laid-so : Laid s (g .env .rows) known (read .item) rates tasks aims ratesThen tasksThen aimsThen
+    laid-so = rw (g .rowed .same) at l
+
+    pub meets : Meets s (allNames s) (g .env) state at known (read .item) cells n ratesThen tasksThen aimsThen
+    meets =
+        record {
+          rates-before = rates;
+          tasks-before = tasks;
+          aims-before = aims;
+          behind = read .state;
+          next = read .next;
+          comes = comes-so;
+          within = g .within;
+          declared = g .declared;
+          rowed = g .rowed;
+          laid = laid-so;
+          drafted = g .drafted;
+        }
+
+  -- the rules of this item come first, and then those of the rest
+  item-first : (v : Verdict) → v ≡ first (rules s (allNames s) (g .env) (read .item)) → isFine v ≡ false → v ≡ verdictOf s
+  unfolding rulesFrom
+  item-first v e f = by (goes item) refl
+    where
+      item : Item
+      item = itemAt s state at .item
+
+      told : v ≡ first (rules s (allNames s) (g .env) item)
+      told = rw p at e
+
+      stops : isFine (first (rules s (allNames s) (g .env) item)) ≡ false
+      stops = ap isFine (sym told) ∙ f
+
+      by : (b : Bool) → goes item ≡ b → v ≡ verdictOf s
+      by true k = told ∙ sym (g .left ∙ rw (from-on s state at (g .within) k) (first-stop (rules s (allNames s) (g .env) item) _ stops))
+      by false k = told ∙ sym (g .left ∙ rw (from-stop s state at (g .within) k) (first-stop (rules s (allNames s) (g .env) item) _ stops))
+
+  -- a broken rule is the answer
+  pub goes-out : (v : Verdict) → v ≡ first (rules s (allNames s) (g .env) (read .item)) → isFine v ≡ false → Answered s v cells n
+  goes-out v e f = record { leftmost = item-first v e f; names = λ q. let z : _≡_ {A = ℕ} 0 1 = cc (ap isFine q) in absurd (omega arith) }
+
+  -- no rule is broken up to the end
+  pub goes-stop : first (rules s (allNames s) (g .env) (read .item)) ≡ Fine → goes (read .item) ≡ false → Answered s Fine cells n
+  unfolding rulesFrom rowsAfter
+  goes-stop v k =
+      let item = itemAt s state at .item in
+      let stop : goes item ≡ false = rw p at k in
+      let fine : first (rules s (allNames s) (g .env) item) ≡ Fine = rw p at v in
+      let items = from-stop s state at (g .within) stop in
+      let all : allNames s ≡ g .env .rows = g .declared ∙ rw items (rw (stop-quiet s [] item stop .0 (g .env .rows), append-nil (g .env .rows))) in
+      record {
+        leftmost = sym (g .left ∙ rw items (rw (append-nil (rules s (allNames s) (g .env) item)) fine));
+        names = λ q. rw all (record { rows = g .rowed .same; size = sym (rowed-size (g .rowed)); table = g .rowed .table });
+      }
+
+  pub goes-on : {ratesThen tasksThen aimsThen : List ℕ} → Laid s (rowsIn cells n) known (read .item) rates tasks aims ratesThen tasksThen aimsThen → first (rules s (allNames s) (g .env) (read .item)) ≡ Fine → goes (read .item) ≡ true
+      → (declaration : Declaration) → rowsOf declaration ≡ map heldRow (declares s (rowsIn cells n) (read .item)) → {cellsThen : List ℕ} {count : ℕ} → Entered cells n declaration cellsThen count
+      → {more : Known} → more ≡ notedBy s (rowsIn cells n) known (read .item) → (at < read .next) × Going s (read .state) (read .next) cellsThen count more ratesThen tasksThen aimsThen
+  unfolding rulesFrom rowsAfter envAfter
+  goes-on {ratesThen} {tasksThen} {aimsThen} l v k declaration e {cellsThen} {count} d {more} q =
+      let item = read .item in
+      let env = g .env in
+      let all = allNames s in
+      let come = comes-so k in
+      let ahead : (at < read .next) × (read .next ≤ length s) = rw p (item-ahead s state at (g .within) (rw p at k)) in
+      let items : itemsFrom s state at ≡ item ∷ itemsFrom s (read .state) (read .next) = rw p (from-on s state at (g .within) (rw p at k)) in
+      let fits : RowsFit (env .rows ++ declares s (env .rows) item) = fitting s all (grow s all env item) env come v (record { items = []; to = refl }) (g .rowed .fits) in
+      let sorted : Sorted (env .rows ++ declares s (env .rows) item) = rows-sorted s (env .rows) (item ∷ []) (g .rowed .sorted) in
+      let entry : rowsOf declaration ≡ map heldRow (declares s (env .rows) item) = rw (g .rowed .same) at e in
+      let note : more ≡ notedBy s (env .rows) known item = rw (g .rowed .same) at q in (
+        ahead .0,
+        record {
+          env = grow s all env item;
+          within = ahead .1;
+          left = g .left ∙ rw items (first-on (rules s all env item) _ v);
+          declared = g .declared ∙ rw items;
+          rowed = rowed-on (g .rowed) (declares s (env .rows) item) fits sorted (joins s all env item v) declaration entry cellsThen count d;
+          drafted = rw note (drafted-on s all env known rates tasks aims ratesThen tasksThen aimsThen come v (rows-room (g .rowed)) (g .rowed .fits) (rw (g .rowed .same) at l) (g .drafted));
+        },
+      )
+
+-- ---- the answer as a whole
+
+-- for a text that breaks no rule its names, for any other none
+abbrev pub judgedBy : Verdict → List Row → Judged
+judgedBy Fine names = record { verdict = Fine; rows = length names; cells = tableOf names }
+judgedBy (No number at) names = record { verdict = No number at; rows = 0; cells = emptyTable }
+
+-- what a text is answered with
+abbrev pub judged : List ℕ → Judged
+judged s = judgedBy (verdictOf s) (allNames s)
+
+module _ {s : List ℕ} {verdict : Verdict} {cells : List ℕ} {n : ℕ} (a : Answered s verdict cells n) where
+  pub whole-no : isFine verdict ≡ false → record { verdict = verdict; rows = 0; cells = emptyTable } ≡ judged s
+  whole-no e = rw (← a .leftmost) (by verdict e)
+    where
+      by : (v : Verdict) → isFine v ≡ false → record { verdict = v; rows = 0; cells = emptyTable } ≡ judgedBy v (allNames s)
+      by Fine e = let z : _≡_ {A = ℕ} 0 1 = cc in absurd (omega arith)
+      by (No number at) e = refl
+
+  pub whole-fine : verdict ≡ Fine → record { verdict = Fine; rows = n; cells = cells } ≡ judged s
+  whole-fine e =
+      let w = a .names e in
+      rw (← a .leftmost, e, ← w .size, ← w .table)

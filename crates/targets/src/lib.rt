@@ -1,0 +1,75 @@
+// The target of a switch: whether its name means a mode, which may be declared further on.
+// Promises that the answer is that of the names declared so far, or else of the first mode of that name in the items to come, for every text and every place.
+// Builds on the items of a text, on the table of names, and on what the rules say of a name.
+ghost use mathlib.Core.Path.{_≡_};
+ghost use Rattle.text.specs.Items.{goes as goesOn, itemsFrom};
+ghost use Rattle.refusals.specs.Names.{letters};
+ghost use Rattle.names.specs.Tables.{rowsIn};
+ghost use Rattle.targets.specs.Ahead.{begins as beginsMode, modeAhead, isTarget};
+use names::Scope;
+use text::Item;
+use text::Name;
+use text::State;
+
+// Whether an item begins a mode of the name sought.
+fn begins(s: &[u8], item: Item, sought: Name) -> bool
+    ensures { λ r. ⌜ r ≡ beginsMode (now (s .entry)) (letters (now (s .entry)) sought) item ⌝ }
+{
+    if let Item::ModeBegin {
+        start: _,
+        at: _,
+        name,
+        digits: _,
+        milli: _,
+    } = item {
+        return names::same_parts(s, name.start, name.end, sought.start, sought.end);
+    }
+    false
+}
+
+// Whether items follow an item: it is neither a refusal nor the end.
+pub fn goes(item: Item) -> bool
+    ensures { λ r. ⌜ r ≡ goesOn item ⌝ }
+{
+    if let Item::No { number: _, at: _ } = item {
+        return false;
+    }
+    if let Item::End = item {
+        return false;
+    }
+    true
+}
+
+// Whether one of the items from a place on begins a mode of the name sought.
+fn ahead(s: &[u8], state: State, at: usize, sought: Name) -> bool
+    ensures { λ r. ⌜ r ≡ modeAhead (now (s .entry)) (letters (now (s .entry)) sought) (itemsFrom (now (s .entry)) state at) ⌝ }
+{
+    let mut behind = state;
+    let mut place = at;
+    while place <= s.len() {
+        let read = items::item(s, behind, place);
+        let found = read.item;
+        if begins(s, found, sought) {
+            return true;
+        }
+        if goes(found) {
+            let next = read.state;
+            behind = next;
+            place = read.next;
+        } else {
+            return false;
+        }
+    }
+    false
+}
+
+// Whether a name means a mode: by the first n names, or else by the items from a place on.
+pub fn is_mode(s: &[u8], cells: &[usize], n: usize, state: State, at: usize, name: Name) -> bool
+    ensures { λ r. ⌜ r ≡ isTarget (now (s .entry)) (rowsIn (now (cells .entry)) n) (itemsFrom (now (s .entry)) state at) name ⌝ }
+{
+    let row = names::find(s, cells, n, Scope::Numbered(0), name.start, name.end);
+    if row.sort < 7 {
+        return row.sort == 4;
+    }
+    ahead(s, state, at, name)
+}
