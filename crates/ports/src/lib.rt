@@ -1,0 +1,122 @@
+// What the declarations of a text put into the arrays of a table: names, ports and the rows of tasks.
+// Promises: for every text, table of names, item and array, each cell is what the definition of that item puts there (specs/), and nothing else changes.
+// Builds on what names and values mean, and on the layout of a table.
+ghost use mathlib.Core.Path.{_≡_};
+ghost use Rattle.names.specs.Tables.{rowsIn};
+ghost use Rattle.ports.specs.Boards.{boardOf, placedBy};
+use text::Item;
+
+mod declarations;
+mod lanes;
+mod rows;
+mod tasks;
+
+// How many there are so far: sensors, actuators, tasks that are complete, rows of tasks' names, rows of outputs' names, and ports; then of the
+// task under way its first port, and how many inputs and outputs it has.
+pub struct Ports {
+    pub sensors: u32,
+    pub actuators: u32,
+    pub tasks: u32,
+    pub labels: u32,
+    pub titles: u32,
+    pub ports: u32,
+    pub first: u32,
+    pub inputs: u32,
+    pub outputs: u32,
+}
+
+// An item put into the arrays, where the first n rows of the table of names stand before it.
+pub fn placed(
+    s: &[u8],
+    cells: &[usize],
+    n: usize,
+    item: Item,
+    ports: Ports,
+    name: &mut [u8],
+    sensor_names: &mut [u8],
+    actuator_names: &mut [u8],
+    task_names: &mut [u8],
+    output_names: &mut [u8],
+    roles: &mut [u32],
+    types: &mut [u32],
+    starts: &mut [u32],
+    task_rows: &mut [u32],
+) -> Ports
+    ensures { λ r. ⌜ boardOf r (now (name .exit)) (now («sensor_names» .exit)) (now («actuator_names» .exit)) (now («task_names» .exit)) (now («output_names» .exit)) (now (roles .exit)) (now (types .exit)) (now (starts .exit)) (now («task_rows» .exit)) ≡ placedBy (now (s .entry)) (rowsIn (now (cells .entry)) n) item (boardOf ports (now (name .entry)) (now («sensor_names» .entry)) (now («actuator_names» .entry)) (now («task_names» .entry)) (now («output_names» .entry)) (now (roles .entry)) (now (types .entry)) (now (starts .entry)) (now («task_rows» .entry))) ⌝ }
+{
+    match item {
+        Item::Module(title) => {
+            rows::name_row(s, title, 0, name);
+            return ports;
+        }
+        Item::Sensor {
+            typ,
+            name: title,
+            getter,
+        } => {
+            return declarations::sensor(
+                s,
+                typ,
+                title,
+                getter,
+                ports,
+                sensor_names,
+                roles,
+                types,
+                starts,
+            );
+        }
+        Item::Actuator {
+            typ,
+            name: title,
+            value,
+            setter,
+        } => {
+            return declarations::actuator(
+                s,
+                cells,
+                n,
+                typ,
+                title,
+                value,
+                setter,
+                ports,
+                actuator_names,
+                roles,
+                types,
+                starts,
+            );
+        }
+        Item::TaskBegin(title) => {
+            return tasks::begin(s, title, ports, task_names);
+        }
+        Item::Input { typ, name: _ } => {
+            return tasks::input(s, typ, ports, roles, types, starts);
+        }
+        Item::Output {
+            typ,
+            name: title,
+            value,
+        } => {
+            return tasks::output(
+                s,
+                cells,
+                n,
+                typ,
+                title,
+                value,
+                ports,
+                output_names,
+                roles,
+                types,
+                starts,
+            );
+        }
+        Item::TaskEnd(function) => {
+            return tasks::end(s, function, ports, task_names, task_rows);
+        }
+        _ => {
+            return ports;
+        }
+    }
+}

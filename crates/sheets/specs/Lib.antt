@@ -1,0 +1,17 @@
+pub mod Sheets
+pub mod Held
+pub mod Raising
+pub mod Pieces
+pub mod GuardLaws
+pub mod KeptActs
+pub mod KeptCalls
+pub mod KeptUpdates
+pub mod KeptSwitches
+pub mod KeptSame
+pub mod KeptModes
+pub mod KeptSources
+pub mod Kept
+pub mod Whole
+pub mod Walk
+pub mod Frequencies
+pub mod Rooms
