@@ -1,0 +1,49 @@
+use mathlib.Core.Path.{sym, _∙_}
+use denote.Ref.{now}
+use Rattle.items.specs.Answers.{told}
+use Rattle.tdl.specs.Stages.{compiles, long, unreadable}
+use native.Mathlib.Omega.{arith}
+use borrow.Author.Needs.{needs}
+use Rattle.tdl.proofs.compile.Statement.{statement}
+use Rattle.tdl.proofs.compile.Tie as tie
+
+returns : tie.Need-returns
+returns c =
+    let right = compiles {text = now (c .before .before .before .args .text)} {before = now (c .before .before .before .args .out)} (long _ _ (omega (arith, c .if1 .taken))) in
+    (right .tells, right .leaves)
+
+syntax-requires : tie.Need-syntax-requires
+syntax-requires c κs = search needs
+
+enum-known-pass : tie.Need-enum-known-pass
+enum-known-pass c = search needs
+
+returns-2 : tie.Need-returns-2
+returns-2 c =
+    let right = compiles {text = now (c .before .before .before .before .before .before .before .args .text)} {before = now (c .before .before .before .before .before .before .before .args .out)} (unreadable _ _ (omega (arith, c .before .before .before .before .if1 .left)) _ _ (told _ _ (sym (c .before .pass .given .1) ∙ c .before .before .before .syntax .ensures))) in
+    (right .tells, right .leaves)
+
+enum-told : tie.Need-enum-told
+enum-told c = search needs
+
+judged-requires : tie.Need-judged-requires
+judged-requires c κs = record { short = omega (arith, c .before .before .before .before .if1 .left); syntax = told _ _ (sym (c .before .enum-told .given .1) ∙ c .before .before .before .syntax .ensures) }
+
+same-length : tie.Need-same-length
+same-length c = search needs
+
+returns-3 : tie.Need-returns-3
+returns-3 c = search needs
+
+pub compile-spec : {M : Type 1} → statement M
+compile-spec =
+    tie.close
+    (tie.spec
+    returns
+    syntax-requires
+    enum-known-pass
+    returns-2
+    enum-told
+    judged-requires
+    same-length
+    returns-3)

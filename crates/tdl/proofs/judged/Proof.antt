@@ -1,0 +1,45 @@
+use mathlib.Core.Path.{sym, _∙_}
+use Rattle.tdl.specs.Stages.{compiles, broken}
+use borrow.Author.Needs.{needs}
+use Rattle.tdl.proofs.judged.Statement.{statement}
+use Rattle.tdl.proofs.judged.Tie as tie
+
+judge-requires : tie.Need-judge-requires
+judge-requires c κs = search needs
+
+enum-known-verdict : tie.Need-enum-known-verdict
+enum-known-verdict c = search needs
+
+returns : tie.Need-returns
+returns c = compiles (broken _ _ (c .before .before .before .before .before .before .pre) _ _ (sym (c .before .before .before .judge .ensures .0) ∙ c .before .verdict .given .1))
+
+enum-told : tie.Need-enum-told
+enum-told c = search needs
+
+slice-aggregate-translated : tie.Need-slice-aggregate-translated
+slice-aggregate-translated c = search needs
+
+translated-requires : tie.Need-translated-requires
+translated-requires c κs =
+    let judge = c .before .before .before .before .before .judge in
+    let fine = c .before .before .before .enum-told .given .1 in
+    record { readable = c .before .before .before .before .before .before .before .before .pre; verdict = sym (judge .ensures .0) ∙ fine; declared = judge .ensures .1 .0 fine }
+
+same-length : tie.Need-same-length
+same-length c = search needs
+
+returns-2 : tie.Need-returns-2
+returns-2 c = search needs
+
+pub judged-spec : {M : Type 1} → statement M
+judged-spec =
+    tie.close
+    (tie.spec
+    judge-requires
+    enum-known-verdict
+    returns
+    enum-told
+    slice-aggregate-translated
+    translated-requires
+    same-length
+    returns-2)

@@ -1,0 +1,3 @@
+pub mod Stages
+pub mod Writings
+pub mod NoSecond

@@ -1,0 +1,51 @@
+-- The compiler's answer, stage by stage: what refuses a text, in document 01's order.
+use Prim.Native.Nat.{ℕ, _≤_, _<_}
+use mathlib.Core.Path.{_≡_, refl, sym, ap}
+use mathlib.Core.List.{List}
+use lib.ListN.{length}
+use borrow.Author.Tests.{lt-ltb, le-ltb}
+use Rattle.model.specs.Rooms.{textRoom, codeRoom}
+use Rattle.text.specs.Items.{refuse, itemsOf, syntaxOf}
+use Rattle.refusals.specs.declared.Verdict.the-variants.{Fine, No}
+use Rattle.refusals.specs.Texts.{declaredBy, verdictOf, moduleOf}
+use Rattle.names.specs.Tables.{rowsIn}
+use Rattle.timing.specs.Code.{codeOf}
+use Rattle.prescribed.specs.declared.Compiled.{Compiled}
+use Rattle.prescribed.specs.Acceptance.{Readable}
+use Rattle.prescribed.specs.Compiles.{Compiling, refused, fileOf, inRoom, compileOf}
+use Rattle.prescribed.specs.Answers.{answered, buffered}
+
+-- the right answer for a text and a buffer, and what the buffer then holds
+pub record Compiles (text before : List ℕ) (answer : Compiled) (after : List ℕ) : Type 0 where
+  pub tells : answer ≡ answered (compileOf text (length before))
+  pub leaves : after ≡ buffered before (compileOf text (length before))
+
+-- a text that breaks no rule, and its names in rows
+pub record Unbroken (text names : List ℕ) (rows : ℕ) : Type 0 where
+  pub readable : Readable text
+  pub verdict : verdictOf text ≡ Fine
+  pub declared : rowsIn names rows ≡ declaredBy text (itemsOf text)
+
+pub compiles : {text before : List ℕ} {c : Compiling} → compileOf text (length before) ≡ c → Compiles text before (answered c) (buffered before c)
+compiles {before = before} e = record { tells = ap answered (sym e); leaves = ap (buffered before) (sym e) }
+
+module _ (text : List ℕ) (room : ℕ) where
+  pub long : textRoom < length text → compileOf text room ≡ refused 1 0
+  unfolding compileOf
+  long h = rw (lt-ltb textRoom (length text) h) refl
+
+  pub unreadable : length text ≤ textRoom → (number at : ℕ) → syntaxOf text ≡ refuse number at → compileOf text room ≡ refused number at
+  unfolding compileOf
+  unreadable h number at e = rw (le-ltb textRoom (length text) h, e) refl
+
+  pub broken : Readable text → (number at : ℕ) → verdictOf text ≡ No number at → compileOf text room ≡ refused number at
+  unfolding compileOf
+  broken r number at e = rw (le-ltb textRoom (length text) (r .short), r .syntax, e) refl
+
+  pub overfull : Readable text → verdictOf text ≡ Fine → codeRoom < length (codeOf (moduleOf text)) → compileOf text room ≡ refused 13 (length text)
+  unfolding compileOf
+  overfull r v h = rw (le-ltb textRoom (length text) (r .short), r .syntax, v, lt-ltb codeRoom (length (codeOf (moduleOf text))) h) refl
+
+  pub in-room : Readable text → verdictOf text ≡ Fine → length (codeOf (moduleOf text)) ≤ codeRoom → compileOf text room ≡ inRoom (length text) room (fileOf (moduleOf text))
+  unfolding compileOf
+  in-room r v h = rw (le-ltb textRoom (length text) (r .short), r .syntax, v, le-ltb codeRoom (length (codeOf (moduleOf text))) h) refl
