@@ -1,0 +1,50 @@
+use Prim.Native.Nat.{_+_, _*_, _-_, _^_, _≤_, _<_}
+use mathlib.Core.Path.{_≡_}
+use lib.ListN.{length}
+use denote.Ref.{now}
+use borrow.Author.Needs.{needs}
+use native.Mathlib.Omega.{arith}
+use Rattle.lines.proofs.values.value_end.Statement.{statement}
+use Rattle.lines.proofs.values.value_end.Tie as tie
+use Rattle.lines.proofs.values.value_end.Reads as reads
+use Rattle.lines.proofs.values.value_end.Lts as lts
+use Rattle.cells.proofs.at8.Reads as at8-reads
+
+abbrev Inv-loop : tie.InvT-loop
+Inv-loop line at to i₀ i = (at ≤ i) × (i ≤ to)
+
+abbrev μ-loop : tie.MeasureT-loop
+μ-loop line at to i₀ i = to - i
+
+-- src/values.rt:93:5
+loop-holds : tie.Need-loop-holds Inv-loop μ-loop
+loop-holds c = search needs
+
+-- src/values.rt:94:12
+at8-requires : tie.Need-at8-requires Inv-loop μ-loop
+at8-requires c κs = search needs
+
+-- src/values.rt:95:13
+returns : tie.Need-returns Inv-loop μ-loop
+returns c = search needs
+
+-- src/values.rt:97:9
+add-i : tie.Need-add-i Inv-loop μ-loop
+add-i c = search needs
+
+-- src/values.rt:93:5
+loop-less : tie.Need-loop-less Inv-loop μ-loop
+loop-less c = search needs
+
+-- src/values.rt:93:5
+loop-again : tie.Need-loop-again Inv-loop μ-loop
+loop-again c = search needs
+
+-- src/values.rt:88:1
+returns-2 : tie.Need-returns-2 Inv-loop μ-loop
+returns-2 c = search needs
+
+pub value-end-spec : {M : Type 1} → statement M
+value-end-spec =
+    tie.close
+    (tie.spec Inv-loop μ-loop loop-holds at8-requires returns add-i loop-less loop-again returns-2)
