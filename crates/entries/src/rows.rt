@@ -59,7 +59,7 @@ fn four(rows: &mut [u32], place: usize, first: u32, second: u32, third: u32, fou
 // ---- drivers
 
 // A termination put in behind those of the tasks before, where so many rows follow.
-pub fn terminate(rows: &mut [u32], task: u32, behind: usize)
+pub(super) fn terminate(rows: &mut [u32], task: u32, behind: usize)
     requires { ⌜ behind < 2 ^ 35 ⌝ }
     ensures { λ _. ⌜ now (rows .exit) ≡ inserted 12 task behind (5 ∷ task ∷ []) (now (rows .entry)) ⌝ }
 {
@@ -69,7 +69,7 @@ pub fn terminate(rows: &mut [u32], task: u32, behind: usize)
 }
 
 // An update put in at a row, where so many rows follow.
-pub fn update(rows: &mut [u32], row: usize, behind: usize, source: u32, target: u32)
+pub(super) fn update(rows: &mut [u32], row: usize, behind: usize, source: u32, target: u32)
     requires { ⌜ (row < 2 ^ 35) × (behind < 2 ^ 35) ⌝ }
     ensures { λ _. ⌜ now (rows .exit) ≡ inserted 12 row behind (3 ∷ target ∷ 1 ∷ source ∷ []) (now (rows .entry)) ⌝ }
 {
@@ -79,7 +79,7 @@ pub fn update(rows: &mut [u32], row: usize, behind: usize, source: u32, target: 
 }
 
 // A release without sources yet, at a row behind all others.
-pub fn release(rows: &mut [u32], row: usize, task: u32)
+pub(super) fn release(rows: &mut [u32], row: usize, task: u32)
     requires { ⌜ row < 2 ^ 35 ⌝ }
     ensures { λ _. ⌜ now (rows .exit) ≡ stored (now (rows .entry)) (row * 12) (4 ∷ task ∷ 0 ∷ []) ⌝ }
 {
@@ -87,7 +87,7 @@ pub fn release(rows: &mut [u32], row: usize, task: u32)
 }
 
 // One source more for the release at a row, which has so many.
-pub fn source(rows: &mut [u32], row: usize, sources: u32, port: u32)
+pub(super) fn source(rows: &mut [u32], row: usize, sources: u32, port: u32)
     requires { ⌜ row < 2 ^ 35 ⌝ }
     ensures { λ _. ⌜ now (rows .exit) ≡ sourceStored row sources port (now (rows .entry)) ⌝ }
 {
@@ -99,7 +99,14 @@ pub fn source(rows: &mut [u32], row: usize, sources: u32, port: u32)
 // ---- activities
 
 // An activity put in at a row, where so many rows follow.
-pub fn act(rows: &mut [u32], row: usize, behind: usize, frequency: u32, guard: u32, what: u32)
+pub(super) fn act(
+    rows: &mut [u32],
+    row: usize,
+    behind: usize,
+    frequency: u32,
+    guard: u32,
+    what: u32,
+)
     requires { ⌜ (row < 2 ^ 35) × (behind < 2 ^ 35) ⌝ }
     ensures { λ _. ⌜ now (rows .exit) ≡ inserted 3 row behind (frequency ∷ guard ∷ what ∷ []) (now (rows .entry)) ⌝ }
 {
@@ -111,7 +118,7 @@ pub fn act(rows: &mut [u32], row: usize, behind: usize, frequency: u32, guard: u
 // ---- guards
 
 // The guard of the activity under way, if it has one, as this number.
-pub fn guard(rows: &mut [u32], number: u32, acting: Acting)
+pub(super) fn guard(rows: &mut [u32], number: u32, acting: Acting)
     ensures { λ _. ⌜ now (rows .exit) ≡ guardStored number acting (now (rows .entry)) ⌝ }
 {
     let place = cells::wide32(number) * 6;
@@ -144,14 +151,14 @@ pub fn guard(rows: &mut [u32], number: u32, acting: Acting)
 // ---- modes
 
 // Start and period of a mode, as this number.
-pub fn head(rows: &mut [u32], number: u32, start: u32, period: u32)
+pub(super) fn head(rows: &mut [u32], number: u32, start: u32, period: u32)
     ensures { λ _. ⌜ now (rows .exit) ≡ stored (now (rows .entry)) (number * 3) (start ∷ period ∷ 0 ∷ []) ⌝ }
 {
     three(rows, cells::wide32(number) * 3, start, period, 0);
 }
 
 // Period, activities of each kind and first activity's row of a mode, as this number.
-pub fn frame(
+pub(super) fn frame(
     rows: &mut [u32],
     number: u32,
     period: u32,

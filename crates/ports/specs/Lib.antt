@@ -1,5 +1,6 @@
 pub mod Boards
 pub mod BoardLaws
+pub mod Parts
 pub mod Laid
 pub mod Holding
 pub mod Placing

@@ -2,28 +2,77 @@
 ghost use mathlib.Core.Path.{_≡_};
 ghost use Rattle.names.specs.Tables.{rowsIn};
 ghost use Rattle.refusals.specs.Values.{typeNamed, literalWord};
-ghost use Rattle.ports.specs.Boards.{word as wordOf, lanesOf, lanePut};
+ghost use Rattle.ports.specs.Boards.{word as wordOf, lanesOf};
+ghost use Rattle.ports.specs.Parts.{portPut, Makes};
 use super::rows;
+use text::Item;
 use text::Literal;
 use text::Name;
 
+// The port that an item makes; none where what it is is 0.
+pub(super) struct Made {
+    pub(super) role: u32,
+    pub(super) typ: u32,
+    pub(super) start: u32,
+}
+
 // The type that a name stands for, and the word of a value.
-pub fn type_word(s: &[u8], typ: Name) -> u32
+fn type_word(s: &[u8], typ: Name) -> u32
     ensures { λ r. ⌜ r ≡ typeNamed (now (s .entry)) typ ⌝ }
 {
     let number = meanings::type_named(s, typ);
     rows::word(number)
 }
 
-pub fn start_word(s: &[u8], cells: &[usize], n: usize, value: Literal) -> u32
+fn start_word(s: &[u8], cells: &[usize], n: usize, value: Literal) -> u32
     ensures { λ r. ⌜ r ≡ wordOf (literalWord (now (s .entry)) (rowsIn (now (cells .entry)) n) value) ⌝ }
 {
     let number = meanings::literal_word(s, cells, n, value);
     rows::word(number)
 }
 
+// A port of this type and with this value at the beginning.
+fn typed(s: &[u8], role: u32, typ: Name, start: u32) -> Made
+    ensures { λ r. ⌜ r ≡ record { role = role; typ = typeNamed (now (s .entry)) typ; start = start } ⌝ }
+{
+    Made {
+        role: role,
+        typ: type_word(s, typ),
+        start: start,
+    }
+}
+
+pub(super) fn port_of(s: &[u8], cells: &[usize], n: usize, item: Item) -> Made
+    ensures { λ r. ⌜ Makes (now (s .entry)) (rowsIn (now (cells .entry)) n) item (r .role) (r .typ) (r .start) ⌝ }
+{
+    match item {
+        Item::Sensor {
+            typ,
+            name: _,
+            getter: _,
+        } => typed(s, 1, typ, 0),
+        Item::Actuator {
+            typ,
+            name: _,
+            value,
+            setter: _,
+        } => typed(s, 2, typ, start_word(s, cells, n, value)),
+        Item::Input { typ, name: _ } => typed(s, 3, typ, 0),
+        Item::Output {
+            typ,
+            name: _,
+            value,
+        } => typed(s, 4, typ, start_word(s, cells, n, value)),
+        _ => Made {
+            role: 0,
+            typ: 0,
+            start: 0,
+        },
+    }
+}
+
 // A port of this number.
-pub fn lane(
+pub(super) fn lane(
     number: u32,
     role: u32,
     typ: u32,
@@ -32,8 +81,11 @@ pub fn lane(
     types: &mut [u32],
     starts: &mut [u32],
 )
-    ensures { λ _. ⌜ lanesOf (now (roles .exit)) (now (types .exit)) (now (starts .exit)) ≡ lanePut number role typ start (lanesOf (now (roles .entry)) (now (types .entry)) (now (starts .entry))) ⌝ }
+    ensures { λ _. ⌜ lanesOf (now (roles .exit)) (now (types .exit)) (now (starts .exit)) ≡ portPut number role typ start (lanesOf (now (roles .entry)) (now (types .entry)) (now (starts .entry))) ⌝ }
 {
+    if role == 0 {
+        return;
+    }
     let at = cells::wide32(number);
     cells::put32(roles, at, role);
     cells::put32(types, at, typ);

@@ -6,10 +6,11 @@ ghost use Rattle.names.specs.Tables.{rowsIn};
 ghost use Rattle.ports.specs.Boards.{boardOf, placedBy};
 use text::Item;
 
-mod declarations;
+mod counts;
 mod lanes;
 mod rows;
 mod tasks;
+mod titles;
 
 // How many there are so far: sensors, actuators, tasks that are complete, rows of tasks' names, rows of outputs' names, and ports; then of the
 // task under way its first port, and how many inputs and outputs it has.
@@ -44,79 +45,27 @@ pub fn placed(
 ) -> Ports
     ensures { λ r. ⌜ boardOf r (now (name .exit)) (now («sensor_names» .exit)) (now («actuator_names» .exit)) (now («task_names» .exit)) (now («output_names» .exit)) (now (roles .exit)) (now (types .exit)) (now (starts .exit)) (now («task_rows» .exit)) ≡ placedBy (now (s .entry)) (rowsIn (now (cells .entry)) n) item (boardOf ports (now (name .entry)) (now («sensor_names» .entry)) (now («actuator_names» .entry)) (now («task_names» .entry)) (now («output_names» .entry)) (now (roles .entry)) (now (types .entry)) (now (starts .entry)) (now («task_rows» .entry))) ⌝ }
 {
-    match item {
-        Item::Module(title) => {
-            rows::name_row(s, title, 0, name);
-            return ports;
-        }
-        Item::Sensor {
-            typ,
-            name: title,
-            getter,
-        } => {
-            return declarations::sensor(
-                s,
-                typ,
-                title,
-                getter,
-                ports,
-                sensor_names,
-                roles,
-                types,
-                starts,
-            );
-        }
-        Item::Actuator {
-            typ,
-            name: title,
-            value,
-            setter,
-        } => {
-            return declarations::actuator(
-                s,
-                cells,
-                n,
-                typ,
-                title,
-                value,
-                setter,
-                ports,
-                actuator_names,
-                roles,
-                types,
-                starts,
-            );
-        }
-        Item::TaskBegin(title) => {
-            return tasks::begin(s, title, ports, task_names);
-        }
-        Item::Input { typ, name: _ } => {
-            return tasks::input(s, typ, ports, roles, types, starts);
-        }
-        Item::Output {
-            typ,
-            name: title,
-            value,
-        } => {
-            return tasks::output(
-                s,
-                cells,
-                n,
-                typ,
-                title,
-                value,
-                ports,
-                output_names,
-                roles,
-                types,
-                starts,
-            );
-        }
-        Item::TaskEnd(function) => {
-            return tasks::end(s, function, ports, task_names, task_rows);
-        }
-        _ => {
-            return ports;
-        }
-    }
+    let behind = counts::counted(item, ports);
+    let port = lanes::port_of(s, cells, n, item);
+    titles::titled(
+        s,
+        item,
+        ports,
+        name,
+        sensor_names,
+        actuator_names,
+        task_names,
+        output_names,
+    );
+    lanes::lane(
+        ports.ports,
+        port.role,
+        port.typ,
+        port.start,
+        roles,
+        types,
+        starts,
+    );
+    tasks::rowed(item, ports, task_rows);
+    behind
 }

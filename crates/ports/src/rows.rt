@@ -7,7 +7,7 @@ ghost use Rattle.ports.specs.Boards.{word as wordOf, more as oneMore, bo
 use text::Name;
 
 // A number as 32 bits hold it: the highest stands for all above it.
-pub fn word(number: usize) -> u32
+pub(super) fn word(number: usize) -> u32
     ensures { λ r. ⌜ r ≡ wordOf number ⌝ }
 {
     if number < 4294967295 {
@@ -17,13 +17,13 @@ pub fn word(number: usize) -> u32
 }
 
 // One more, and a sum.
-pub fn more(count: u32) -> u32
+pub(super) fn more(count: u32) -> u32
     ensures { λ r. ⌜ r ≡ oneMore count ⌝ }
 {
     word(cells::wide32(count) + 1)
 }
 
-pub fn both(left: u32, right: u32) -> u32
+pub(super) fn both(left: u32, right: u32) -> u32
     ensures { λ r. ⌜ r ≡ bothOf left right ⌝ }
 {
     let first = cells::wide32(left);
@@ -65,7 +65,7 @@ fn copy(s: &[u8], start: usize, end: usize, many: usize, place: usize, names: &m
 }
 
 // A name, to the row that begins at a place.
-pub fn name_row(s: &[u8], name: Name, place: usize, names: &mut [u8])
+pub(super) fn name_row(s: &[u8], name: Name, place: usize, names: &mut [u8])
     requires { ⌜ place < 2 ^ 40 ⌝ }
     ensures { λ _. ⌜ now (names .exit) ≡ stored (now (names .entry)) place (nameRow (now (s .entry)) name) ⌝ }
 {

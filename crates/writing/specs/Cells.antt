@@ -6,7 +6,7 @@ use mathlib.Core.Path.{_≡_, refl}
 use mathlib.Core.List.{List, [], _∷_, _++_}
 use mathlib.Core.Bool.{cond}
 use lib.Dec.{eqb}
-use lib.ListN.{length, getD}
+use lib.ListN.{getD}
 use Rattle.model.specs.Rooms.{sensorRoom, actuatorRoom, taskRoom, portRoom, argumentRoom, driverRoom, guardRoom, modeRoom, codeRoom}
 use Rattle.model.specs.Bytes.{bytes}
 use Rattle.model.specs.Values.{functionNames}
@@ -38,10 +38,6 @@ counted count room part many = count many ++ parts part (min many room)
 -- Strings: length byte, bytes; in the row that begins at cell `row`
 unfoldable pub nameIn : List ℕ → ℕ → List ℕ
 nameIn names row = byteOf (cell names row) ++ parts (λ k. byteOf (cell names (row + 1 + k))) (cell names row)
-
--- bytes as they stand
-abbrev pub wordOf : List ℕ → List ℕ
-wordOf word = parts (λ k. byteOf (cell word k)) (length word)
 
 -- ---- sensors, actuators
 
@@ -134,6 +130,17 @@ function-other (suc zero) h = absurd (omega arith)
 function-other (suc (suc zero)) h = absurd (omega arith)
 function-other (suc (suc (suc zero))) h = refl
 function-other (suc (suc (suc (suc number)))) h = refl
+
+-- the names of the functions in rows of 8 cells, each with its length before it
+abbrev pub functionRows : List ℕ
+functionRows = 6 ∷ 105 ∷ 115 ∷ 84 ∷ 114 ∷ 117 ∷ 101 ∷ 0 ∷ 7 ∷ 105 ∷ 115 ∷ 70 ∷ 97 ∷ 108 ∷ 115 ∷ 101 ∷ 4 ∷ 108 ∷ 101 ∷ 115 ∷ 115 ∷ 0 ∷ 0 ∷ 0 ∷ 5 ∷ 101 ∷ 113 ∷ 117 ∷ 97 ∷ 108 ∷ 0 ∷ 0 ∷ []
+
+pub function-row : (number row : ℕ) → row ≡ min number 3 → nameIn functionRows (row * 8) ≡ functionIn number
+unfolding nameIn functionIn byteOf parts
+function-row zero row e = let z : row ≡ 0 = omega arith in rw z
+function-row (suc zero) row e = let z : row ≡ 1 = omega arith in rw z
+function-row (suc (suc zero)) row e = let z : row ≡ 2 = omega arith in rw z
+function-row (suc (suc (suc number))) row e = let z : row ≡ 3 = omega arith in rw z (function-other (suc (suc (suc number))) (omega arith))
 
 -- arguments: 0 port, or 1 type and value
 unfoldable pub argumentIn : ℕ → ℕ → List ℕ

@@ -3,8 +3,9 @@ ghost use mathlib.Core.Path.{_≡_};
 ghost use mathlib.Core.List.{_++_};
 ghost use Prim.Native.Nat.{_<_, _^_};
 ghost use Rattle.writing.specs.Puts.{Puts};
-ghost use Rattle.writing.specs.Cells.{byteOf, wordOf, nameIn, functionIn};
+ghost use Rattle.writing.specs.Cells.{byteOf, nameIn, functionIn};
 use super::numbers::byte;
+use super::numbers::few;
 use super::numbers::put;
 
 // The name in the row of 33 cells that begins at `row`.
@@ -31,32 +32,15 @@ pub fn head(buffer: &mut [u8], at: usize, name_row: &[u8]) -> usize
     name(buffer, versioned, name_row, 0)
 }
 
-// Bytes as they stand.
-fn word(buffer: &mut [u8], at: usize, word: &[u8]) -> usize
-    ensures { λ r. ⌜ Puts (now (buffer .entry)) at (wordOf (now (word .entry))) (now (buffer .exit)) r ⌝ }
-{
-    let n = word.len();
-    let mut next = at;
-    let mut k = 0;
-    while k < n {
-        next = put(buffer, next, cells::at8(word, k));
-        k += 1;
-    }
-    next
-}
-
-// The length of a function's name, and the name.
+// The length of a function's name, and the name: the names stand in rows of 8 cells.
 pub(crate) fn function(buffer: &mut [u8], at: usize, number: u32) -> usize
     ensures { λ r. ⌜ Puts (now (buffer .entry)) at (functionIn number) (now (buffer .exit)) r ⌝ }
 {
-    if number == 0 {
-        return word(buffer, at, b"\x06isTrue");
-    }
-    if number == 1 {
-        return word(buffer, at, b"\x07isFalse");
-    }
-    if number == 2 {
-        return word(buffer, at, b"\x04less");
-    }
-    word(buffer, at, b"\x05equal")
+    let row = few(number, 3) * 8;
+    name(
+        buffer,
+        at,
+        b"\x06isTrue\x00\x07isFalse\x04less\x00\x00\x00\x05equal\x00\x00",
+        row,
+    )
 }

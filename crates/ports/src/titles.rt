@@ -1,0 +1,85 @@
+// The names of the module, of sensors, actuators, tasks and outputs.
+ghost use mathlib.Core.Path.{_≡_};
+ghost use Rattle.ports.specs.Boards.{namePut, namesPut, titlesOf};
+ghost use Rattle.ports.specs.Parts.{titlesBy};
+use super::Ports;
+use super::rows;
+use text::Item;
+use text::Name;
+
+// A name, to row k.
+fn one(s: &[u8], k: u32, name: Name, names: &mut [u8])
+    ensures { λ _. ⌜ now (names .exit) ≡ namePut (now (s .entry)) k name (now (names .entry)) ⌝ }
+{
+    let row = cells::wide32(k) * 33;
+    rows::name_row(s, name, row, names);
+}
+
+// The two names of record k.
+fn two(s: &[u8], k: u32, first: Name, second: Name, names: &mut [u8])
+    ensures { λ _. ⌜ now (names .exit) ≡ namesPut (now (s .entry)) k first second (now (names .entry)) ⌝ }
+{
+    let row = cells::wide32(k) * 66;
+    rows::name_row(s, first, row, names);
+    rows::name_row(s, second, row + 33, names);
+}
+
+// The names that an item declares.
+pub(super) fn titled(
+    s: &[u8],
+    item: Item,
+    ports: Ports,
+    title: &mut [u8],
+    sensors: &mut [u8],
+    actuators: &mut [u8],
+    tasks: &mut [u8],
+    outputs: &mut [u8],
+)
+    ensures { λ _. ⌜ titlesOf (now (title .exit)) (now (sensors .exit)) (now (actuators .exit)) (now (tasks .exit)) (now (outputs .exit)) ≡ titlesBy (now (s .entry)) item ports (titlesOf (now (title .entry)) (now (sensors .entry)) (now (actuators .entry)) (now (tasks .entry)) (now (outputs .entry))) ⌝ }
+{
+    match item {
+        Item::Module(name) => {
+            rows::name_row(s, name, 0, title);
+            return;
+        }
+        Item::Sensor {
+            typ: _,
+            name,
+            getter,
+        } => {
+            two(s, ports.sensors, name, getter, sensors);
+            return;
+        }
+        Item::Actuator {
+            typ: _,
+            name,
+            value: _,
+            setter,
+        } => {
+            two(s, ports.actuators, name, setter, actuators);
+            return;
+        }
+        Item::TaskBegin(name) => {
+            one(s, ports.labels, name, tasks);
+            return;
+        }
+        Item::Input { typ: _, name: _ } => {
+            return;
+        }
+        Item::Output {
+            typ: _,
+            name,
+            value: _,
+        } => {
+            one(s, ports.titles, name, outputs);
+            return;
+        }
+        Item::TaskEnd(function) => {
+            one(s, ports.labels, function, tasks);
+            return;
+        }
+        _ => {
+            return;
+        }
+    }
+}
