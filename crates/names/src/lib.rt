@@ -31,8 +31,8 @@ fn cell(cells: &[usize], i: usize) -> usize
     if i < cells.len() { cells[i] } else { 0 }
 }
 
-// The row at a place of the table.
-pub fn row(cells: &[usize], k: usize) -> Row
+// The row at a place where the array may end within it, or before it.
+fn ragged(cells: &[usize], k: usize) -> Row
     ensures { λ r. ⌜ r ≡ rowAt (now (cells .entry)) k ⌝ }
 {
     if cells.len() <= k {
@@ -60,6 +60,24 @@ pub fn row(cells: &[usize], k: usize) -> Row
         typ: typ,
         value: value,
     }
+}
+
+// The row at a place of the table.
+pub fn row(cells: &[usize], k: usize) -> Row
+    ensures { λ r. ⌜ r ≡ rowAt (now (cells .entry)) k ⌝ }
+{
+    if k < cells.len() / 6 {
+        let first = k * 6;
+        return Row {
+            start: cells[first],
+            end: cells[first + 1],
+            scope: cells[first + 2],
+            sort: cells[first + 3],
+            typ: cells[first + 4],
+            value: cells[first + 5],
+        };
+    }
+    ragged(cells, k)
 }
 
 // The row of a name that means nothing.

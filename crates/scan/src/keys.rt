@@ -1,9 +1,8 @@
 // Keywords.
 ghost use mathlib.Core.Path.{_≡_};
-ghost use Prim.Native.Nat.{_<_};
 ghost use lib.Seq.{slice};
-ghost use Rattle.model.specs.Bytes.{same, placeIn};
-ghost use Rattle.text.specs.Words.{keyword, keywords};
+ghost use Rattle.model.specs.Bytes.{placeIn};
+ghost use Rattle.text.specs.Words.{keywords};
 ghost use Rattle.text.specs.Tokens.{keyToken, wordToken};
 use super::words;
 use text::Token;
@@ -83,23 +82,18 @@ const TOKENS: [Token; 22] = [
     Token::KeyUses,
 ];
 
-// Whether the bytes from start up to end are keyword k.
-fn is_key(s: &[u8], start: usize, end: usize, k: usize) -> bool
-    requires { ⌜ k < 22 ⌝ }
-    ensures { λ r. ⌜ r ≡ same (slice start end (now (s .entry))) (keyword k) ⌝ }
-{
-    let first = k * 12;
-    let last = first + LENGTHS[k];
-    words::same(s, start, end, &KEYS[first..last])
-}
-
-// The place of the bytes from start up to end among the keywords, 22 where they are none.
+// The place of the bytes from start up to end among the keywords, 22 where they are none. The tables stand before the loop: they are laid out anew
+// wherever they are named.
 fn place(s: &[u8], start: usize, end: usize) -> usize
     ensures { λ r. ⌜ r ≡ placeIn keywords 0 (slice start end (now (s .entry))) ⌝ }
 {
+    let keys = KEYS;
+    let lengths = LENGTHS;
     let mut k = 0;
     while k < 22 {
-        if is_key(s, start, end, k) {
+        let first = k * 12;
+        let last = first + lengths[k];
+        if words::same(s, start, end, &keys[first..last]) {
             return k;
         }
         k += 1;
