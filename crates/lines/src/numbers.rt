@@ -1,8 +1,12 @@
 // Numbers and bytes in a line.
 use super::Part;
-ghost use Prim.Native.Nat.{_+_, _*_, _^_, _≤_, _<_};
+use super::saying;
 ghost use mathlib.Core.Path.{_≡_};
-ghost use lib.ListN.{length};
+ghost use Prim.Native.Nat.{_≤_};
+ghost use lib.Seq.{slice};
+ghost use Rattle.text.specs.Words.{within};
+ghost use Rattle.lines.specs.Buffers.{written};
+ghost use Rattle.lines.specs.Numbers.{digitIn, digits, numberOf, Small, hexWorth, bytesOf, unread, Unspells};
 
 // A number, where the part of the line is one.
 pub struct Number {
@@ -10,44 +14,64 @@ pub struct Number {
     pub value: u64,
 }
 
-// Beyond every number of a request.
-const MOST: u64 = 1000000000000;
-
-// The value of a number's digits with one more, which counts as beyond when it is.
-fn more(value: u64, digit: u8) -> u64
-    requires { ⌜ (value < 20000000000000) × (digit ≤ 16) ⌝ }
-    ensures { λ r. ⌜ r < 20000000000000 ⌝ }
+fn between(b: u8, low: u8, high: u8) -> bool
+    ensures { λ r. ⌜ r ≡ within low high b ⌝ }
 {
-    if value < MOST {
-        return value * 10 + (digit as u64);
+    if b < low {
+        return false;
     }
-    value
+    b <= high
+}
+
+// Whether a byte is a decimal, or a hexadecimal, digit.
+fn is_digit(byte: u8, hex: bool) -> bool
+    ensures { λ r. ⌜ r ≡ digitIn hex byte ⌝ }
+{
+    if between(byte, 48, 57) {
+        return true;
+    }
+    if hex {
+        return between(byte, 97, 102);
+    }
+    false
+}
+
+// Whether a word is digits.
+fn all_digits(word: &[u8], hex: bool) -> bool
+    ensures { λ r. ⌜ r ≡ digits hex (now (word .entry)) ⌝ }
+{
+    if word.len() == 0 {
+        return false;
+    }
+    let mut k = 0;
+    while k < word.len() {
+        if !is_digit(word[k], hex) {
+            return false;
+        }
+        k += 1;
+    }
+    true
 }
 
 // The digits from a place to another; leading zeros as many as one likes.
-pub fn decimal(line: &[u8], from: usize, to: usize) -> Number {
-    let mut value = 0u64;
-    let mut i = from;
-    while i < to {
-        let byte = cells::at8(line, i);
-        if digit(byte) > 9 {
-            return Number {
-                good: false,
-                value: 0,
-            };
-        }
-        value = more(value, digit(byte));
-        i += 1;
+pub fn decimal(line: &[u8], from: usize, to: usize) -> Number
+    ensures { λ r. ⌜ r ≡ numberOf (slice from to (now (line .entry))) ⌝ }
+{
+    if all_digits(super::cut(line, from, to), false) {
+        return Number {
+            good: true,
+            value: scan::value(line, from, to),
+        };
     }
     Number {
-        good: from < to,
-        value: value,
+        good: false,
+        value: 0,
     }
 }
 
 // A number of at most 32 bits.
 pub fn small(line: &[u8], part: Part) -> Number
-    ensures { λ r. ⌜ r .value < 4294967296 ⌝ }
+    ensures { λ r. ⌜ Small (slice (part .from) (part .to) (now (line .entry))) r ⌝ }
 {
     let n = decimal(line, part.from, part.to);
     if n.value < 4294967296 {
@@ -65,81 +89,66 @@ pub struct Unspelled {
     pub size: usize,
 }
 
-// The value of a hexadecimal digit; 16 for a byte that is none.
-fn digit(byte: u8) -> u8
-    ensures { λ r. ⌜ r ≤ 16 ⌝ }
+fn refused() -> Unspelled
+    ensures { λ r. ⌜ r ≡ unread ⌝ }
 {
-    if byte < 48 {
-        return 16;
+    Unspelled {
+        good: false,
+        size: 0,
     }
-    if byte < 58 {
-        return byte - 48;
-    }
-    if byte < 97 {
-        return 16;
-    }
-    if byte < 103 {
-        return byte - 87;
-    }
-    16
 }
 
-// Pairs of digits from a place on, each a byte.
-fn pairs(line: &[u8], from: usize, many: usize, bytes: &mut [u8]) -> bool
-    requires { ⌜ from + 2 * many < 2 ^ 64 ⌝ }
-    ensures { λ _. ⌜ length (now (bytes .exit)) ≡ length (now (bytes .entry)) ⌝ }
+// The value of a hexadecimal digit.
+fn worth(byte: u8) -> u8
+    ensures { λ r. ⌜ (r ≡ hexWorth byte) × (r ≤ 15) ⌝ }
 {
-    let mut k = 0;
-    let mut at = from;
-    while k < many {
-        let high = digit(cells::at8(line, at));
-        let low = digit(cells::at8(line, at + 1));
-        if high > 15 {
-            return false;
-        }
-        if low > 15 {
-            return false;
-        }
-        cells::put8(bytes, k, high * 16 + low);
-        at += 2;
-        k += 1;
+    if between(byte, 48, 57) {
+        return byte - 48;
     }
-    true
+    if between(byte, 97, 102) {
+        return byte - 87;
+    }
+    0
+}
+
+// Pairs of digits, each a byte.
+fn fill(word: &[u8], room: &mut [u8])
+    ensures { λ _. ⌜ now (room .exit) ≡ written (now (room .entry)) 0 (bytesOf (now (word .entry))) ⌝ }
+{
+    let mut next = 0;
+    let mut k = 0;
+    while k + 1 < word.len() {
+        let high = worth(word[k]);
+        let low = worth(word[k + 1]);
+        next = saying::byte(room, next, high * 16 + low);
+        k += 2;
+    }
 }
 
 // The bytes that a word says: `-` for none, else an even number of digits, as many as there is room for.
 pub fn bytes(line: &[u8], part: Part, room: &mut [u8]) -> Unspelled
-    ensures { λ r. ⌜ r .size ≤ length (now (room .exit)) ⌝ }
+    ensures { λ r. ⌜ Unspells (slice (part .from) (part .to) (now (line .entry))) (now (room .entry)) (now (room .exit)) r ⌝ }
 {
-    if part.to <= part.from {
+    if scan::same(line, part.from, part.to, b"-") {
         return Unspelled {
-            good: false,
+            good: true,
             size: 0,
         };
     }
-    let digits = part.to - part.from;
-    let many = digits / 2;
-    if digits == 1 {
-        return Unspelled {
-            good: cells::at8(line, part.from) == 45,
-            size: 0,
-        };
+    let word = super::cut(line, part.from, part.to);
+    let many = word.len() / 2;
+    if !all_digits(word, true) {
+        return refused();
     }
-    if digits % 2 == 1 {
-        return Unspelled {
-            good: false,
-            size: 0,
-        };
+    if word.len() % 2 != 0 {
+        return refused();
     }
     if many > room.len() {
-        return Unspelled {
-            good: false,
-            size: 0,
-        };
+        return refused();
     }
-    let good = pairs(line, part.from, many, room);
+    fill(word, room);
     Unspelled {
-        good: good,
+        good: true,
         size: many,
     }
 }

@@ -1,8 +1,11 @@
 // Values in a line: `b0`, `b1`, `i` and an int, joined by commas; `-` for none.
 use super::Part;
 use super::numbers;
-ghost use Prim.Native.Nat.{_≤_, _<_};
-ghost use lib.ListN.{length};
+use super::numbers::Number;
+ghost use mathlib.Core.Path.{_≡_};
+ghost use lib.Seq.{slice};
+ghost use Rattle.lines.specs.Values.{noValue, booleanIn, positiveOf, negativeOf, intIn, valueIn, pieces, allValues, Lists};
+ghost use Rattle.lines.specs.ValuesLaws.{Filled};
 
 // Values, and how many are kept of them.
 pub struct Listed {
@@ -17,7 +20,9 @@ struct Value {
     word: u32,
 }
 
-fn none() -> Value {
+fn none() -> Value
+    ensures { λ r. ⌜ r ≡ noValue ⌝ }
+{
     Value {
         good: false,
         typ: 2,
@@ -26,12 +31,17 @@ fn none() -> Value {
 }
 
 // A positive int.
-fn positive(n: u64) -> Value {
-    if n < 2147483648 {
+fn positive(n: Number) -> Value
+    ensures { λ r. ⌜ r ≡ positiveOf n ⌝ }
+{
+    if !n.good {
+        return none();
+    }
+    if n.value < 2147483648 {
         return Value {
             good: true,
             typ: 0,
-            word: n as u32,
+            word: n.value as u32,
         };
     }
     Value {
@@ -42,19 +52,24 @@ fn positive(n: u64) -> Value {
 }
 
 // A negative one, by the size of it.
-fn negative(n: u64) -> Value {
-    if n == 0 {
+fn negative(n: Number) -> Value
+    ensures { λ r. ⌜ r ≡ negativeOf n ⌝ }
+{
+    if !n.good {
+        return none();
+    }
+    if n.value == 0 {
         return Value {
             good: true,
             typ: 0,
             word: 0,
         };
     }
-    if n <= 2147483648 {
+    if n.value <= 2147483648 {
         return Value {
             good: true,
             typ: 0,
-            word: (4294967296 - n) as u32,
+            word: (4294967296 - n.value) as u32,
         };
     }
     Value {
@@ -64,34 +79,26 @@ fn negative(n: u64) -> Value {
     }
 }
 
-fn int(line: &[u8], from: usize, to: usize) -> Value {
-    if from < to && cells::at8(line, from) == 45 {
-        let n = numbers::decimal(line, from + 1, to);
-        if n.good {
-            return negative(n.value);
-        }
-        return none();
+fn int(word: &[u8]) -> Value
+    ensures { λ r. ⌜ r ≡ intIn (now (word .entry)) ⌝ }
+{
+    if cells::at8(word, 1) == 45 {
+        return negative(numbers::decimal(word, 2, word.len()));
     }
-    let n = numbers::decimal(line, from, to);
-    if n.good {
-        return positive(n.value);
-    }
-    none()
+    positive(numbers::decimal(word, 1, word.len()))
 }
 
-fn boolean(line: &[u8], from: usize, to: usize) -> Value {
-    if to <= from || to - from != 1 {
-        return none();
-    }
-    let byte = cells::at8(line, from);
-    if byte == 48 {
+fn boolean(word: &[u8]) -> Value
+    ensures { λ r. ⌜ r ≡ booleanIn (now (word .entry)) ⌝ }
+{
+    if scan::same(word, 0, word.len(), b"b0") {
         return Value {
             good: true,
             typ: 1,
             word: 0,
         };
     }
-    if byte == 49 {
+    if scan::same(word, 0, word.len(), b"b1") {
         return Value {
             good: true,
             typ: 1,
@@ -101,106 +108,69 @@ fn boolean(line: &[u8], from: usize, to: usize) -> Value {
     none()
 }
 
-fn one(line: &[u8], from: usize, to: usize) -> Value {
-    if to <= from {
-        return none();
+fn one(word: &[u8]) -> Value
+    ensures { λ r. ⌜ r ≡ valueIn (now (word .entry)) ⌝ }
+{
+    if cells::at8(word, 0) == 105 {
+        return int(word);
     }
-    let byte = cells::at8(line, from);
-    if byte == 98 {
-        return boolean(line, from + 1, to);
-    }
-    if byte == 105 {
-        return int(line, from + 1, to);
-    }
-    none()
+    boolean(word)
 }
 
-// The end of a value: the next comma, or the end of the word.
-fn value_end(line: &[u8], at: usize, to: usize) -> usize
-    requires { ⌜ at ≤ to ⌝ }
-    ensures { λ r. ⌜ (at ≤ r) × (r ≤ to) ⌝ }
+// Whether all that stands between the commas is values.
+fn all_good(word: &[u8]) -> bool
+    ensures { λ r. ⌜ r ≡ allValues (pieces (now (word .entry))) ⌝ }
 {
-    let mut i = at;
-    while i < to {
-        if cells::at8(line, i) == 44 {
-            return i;
+    let mut at = 0;
+    while at <= word.len() {
+        let end = super::find(word, at, 44);
+        let found = one(super::cut(word, at, end));
+        if !found.good {
+            return false;
         }
-        i += 1;
+        at = end + 1;
     }
-    to
+    true
 }
 
-// One value more, where there is room; what is behind is not kept.
-fn counted(count: usize, room: usize) -> usize
-    ensures { λ r. ⌜ r ≤ room ⌝ }
+// The types and words of what stands between the commas, and how many there are.
+fn fill(word: &[u8], types: &mut [u32], words: &mut [u32]) -> usize
+    ensures { λ r. ⌜ Filled (now (word .entry)) (now (types .entry)) (now (words .entry)) (now (types .exit)) (now (words .exit)) r ⌝ }
 {
-    if count < room {
-        return count + 1;
+    let mut count = 0;
+    let mut at = 0;
+    while at <= word.len() {
+        let end = super::find(word, at, 44);
+        let found = one(super::cut(word, at, end));
+        cells::put32(types, count, found.typ);
+        cells::put32(words, count, found.word);
+        count += 1;
+        at = end + 1;
     }
-    room
-}
-
-fn least(a: usize, b: usize) -> usize
-    ensures { λ r. ⌜ (r ≤ a) × (r ≤ b) ⌝ }
-{
-    if a < b {
-        return a;
-    }
-    b
-}
-
-// The place behind a value and its comma.
-fn behind(at: usize, end: usize, to: usize) -> usize
-    requires { ⌜ (at < to) × (at ≤ end) ⌝ }
-    ensures { λ r. ⌜ at < r ⌝ }
-{
-    if end < to {
-        return end + 1;
-    }
-    to
+    count
 }
 
 // The values that a word says: types and words, one behind the other, as many as there is room for.
 pub fn values(line: &[u8], part: Part, types: &mut [u32], words: &mut [u32]) -> Listed
-    ensures { λ r. ⌜ (r .count ≤ length (now (types .exit))) × (r .count ≤ length (now (words .exit))) ⌝ }
+    ensures { λ r. ⌜ Lists (slice (part .from) (part .to) (now (line .entry))) (now (types .entry)) (now (words .entry)) (now (types .exit)) (now (words .exit)) r ⌝ }
 {
-    if super::is(line, part, b"-") {
+    if scan::same(line, part.from, part.to, b"-") {
         return Listed {
             good: true,
             count: 0,
         };
     }
-    if part.to <= part.from {
+    let word = super::cut(line, part.from, part.to);
+    if !all_good(word) {
         return Listed {
             good: false,
             count: 0,
         };
     }
-    if cells::at8(line, part.to - 1) == 44 {
-        return Listed {
-            good: false,
-            count: 0,
-        };
-    }
-    let room = least(types.len(), words.len());
-    let mut count = 0;
-    let mut at = part.from;
-    while at < part.to {
-        let end = value_end(line, at, part.to);
-        let found = one(line, at, end);
-        if !found.good {
-            return Listed {
-                good: false,
-                count: 0,
-            };
-        }
-        cells::put32(types, count, found.typ);
-        cells::put32(words, count, found.word);
-        count = counted(count, room);
-        at = behind(at, end, part.to);
-    }
+    let count = fill(word, types, words);
+    let room = super::least(types.len(), words.len());
     Listed {
         good: true,
-        count: count,
+        count: super::least(count, room),
     }
 }

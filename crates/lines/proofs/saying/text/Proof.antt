@@ -1,52 +1,47 @@
-use Prim.Native.Nat.{_+_, _*_, _-_, _^_, _≤_, _<_}
-use mathlib.Core.Path.{_≡_}
-use lib.ListN.{length}
-use denote.Ref.{now}
-use borrow.Author.Needs.{needs}
+use Prim.Native.Nat.{_+_, _-_, _≤_}
 use native.Mathlib.Omega.{arith}
+use lib.ListN.{length, drop, drop-of-length-le}
+use borrow.Author.Needs.{needs}
+use Rattle.text.specs.SpacesLaws.{drop-step}
+use Rattle.lines.specs.Buffers.{Still, still-begins, still-on, still-ends}
 use Rattle.lines.proofs.saying.text.Statement.{statement}
 use Rattle.lines.proofs.saying.text.Tie as tie
-use Rattle.lines.proofs.saying.text.Reads as reads
-use Rattle.lines.proofs.saying.text.Lts as lts
-use Rattle.lines.proofs.saying.byte.Reads as byte-reads
 
 abbrev Inv-loop : tie.InvT-loop
-Inv-loop out₀ at word next₀ k₀ out next k = (k ≤ length word) × (length out ≡ length out₀)
+Inv-loop out₀ at word next₀ k₀ out next k = (k ≤ length word) × Still out₀ at word out next (drop k word)
 
 abbrev μ-loop : tie.MeasureT-loop
 μ-loop out₀ at word next₀ k₀ out next k = length word - k
 
--- src/saying.rt:17:5
 loop-holds : tie.Need-loop-holds Inv-loop μ-loop
-loop-holds c = search needs
+loop-holds c = (omega arith, still-begins)
 
--- src/saying.rt:18:32
 shared-slice-read-byte : tie.Need-shared-slice-read-byte Inv-loop μ-loop
 shared-slice-read-byte c = search needs
 
--- src/saying.rt:18:9
 byte-requires : tie.Need-byte-requires Inv-loop μ-loop
 byte-requires c κs = search needs
 
--- src/saying.rt:19:9
 add-k : tie.Need-add-k Inv-loop μ-loop
 add-k c = search needs
 
--- src/saying.rt:17:5
 loop-less : tie.Need-loop-less Inv-loop μ-loop
 loop-less c = search needs
 
--- src/saying.rt:17:5
 loop-again : tie.Need-loop-again Inv-loop μ-loop
-loop-again c = search needs
+loop-again c =
+    let word = c .before .before .before .before .before .before .before .before .before .args .word .now in
+    let loop = c .before .before .before .before .before .before .loop in
+    (omega arith, still-on (drop (loop .k + 1) word) (rw (drop-step word (loop .k) (omega arith)) at (loop .inv .1)) (c .before .before .byte .ensures))
 
--- src/saying.rt:14:1
 same-length : tie.Need-same-length Inv-loop μ-loop
 same-length c = search needs
 
--- src/saying.rt:14:1
 returns : tie.Need-returns Inv-loop μ-loop
-returns c = search needs
+returns c =
+    let word = c .before .before .before .before .args .word .now in
+    let over : length word ≤ c .before .loop .k = omega arith in
+    still-ends (rw (drop-of-length-le word over) at (c .before .loop .inv .1))
 
 pub text-spec : {M : Type 1} → statement M
 text-spec =

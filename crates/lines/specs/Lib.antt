@@ -1,0 +1,9 @@
+pub mod Buffers
+pub mod Sayings
+pub mod SayingsLaws
+pub mod Parts
+pub mod Numbers
+pub mod NumbersLaws
+pub mod Values
+pub mod ValuesLaws
+pub mod Cases
