@@ -1,64 +1,51 @@
-use Prim.Native.Nat.{_+_, _*_, _-_, _^_, _≤_, _<_}
+use Prim.Native.Nat.{_-_, _≤_}
 use mathlib.Core.Path.{_≡_}
 use lib.ListN.{length}
 use borrow.Author.Needs.{needs}
-use native.Mathlib.Omega.{arith}
-use Rattle.console.proofs.shift.Statement.{statement}
-use Rattle.console.proofs.shift.Tie as tie
-use Rattle.console.proofs.shift.Reads as reads
-use Rattle.console.proofs.shift.Lts as lts
-use Rattle.cells.proofs.at8.Reads as at8-reads
-use Rattle.cells.proofs.put8.Reads as put8-reads
+use Rattle.console.proofs.input.shift.Statement.{statement}
+use Rattle.console.proofs.input.shift.Tie as tie
 
 abbrev Inv-loop : tie.InvT-loop
-Inv-loop buffer₀ from end n i₀ buffer i = (i ≤ n) × (length buffer ≡ length buffer₀)
+Inv-loop buffer₀ from to size i₀ buffer i = (i ≤ size) × (length buffer ≡ length buffer₀)
 
 abbrev μ-loop : tie.MeasureT-loop
-μ-loop buffer₀ from end n i₀ buffer i = n - i
+μ-loop buffer₀ from to size i₀ buffer i = size - i
 
--- src/main.rt:104:9
 returns : tie.Need-returns Inv-loop μ-loop
 returns c = search needs
 
--- src/main.rt:106:13
-sub-n : tie.Need-sub-n Inv-loop μ-loop
-sub-n c = search needs
+sub-size : tie.Need-sub-size Inv-loop μ-loop
+sub-size c = search needs
 
--- src/main.rt:108:5
+returns-2 : tie.Need-returns-2 Inv-loop μ-loop
+returns-2 c = search needs
+
 loop-holds : tie.Need-loop-holds Inv-loop μ-loop
 loop-holds c = search needs
 
--- src/main.rt:109:51
 add-at8 : tie.Need-add-at8 Inv-loop μ-loop
 add-at8 c = search needs
 
--- src/main.rt:109:32
 at8-requires : tie.Need-at8-requires Inv-loop μ-loop
 at8-requires c κs = search needs
 
--- src/main.rt:109:9
 put8-requires : tie.Need-put8-requires Inv-loop μ-loop
 put8-requires c κs = search needs
 
--- src/main.rt:110:9
 add-i : tie.Need-add-i Inv-loop μ-loop
 add-i c = search needs
 
--- src/main.rt:108:5
 loop-less : tie.Need-loop-less Inv-loop μ-loop
 loop-less c = search needs
 
--- src/main.rt:108:5
 loop-again : tie.Need-loop-again Inv-loop μ-loop
 loop-again c = search needs
 
--- src/main.rt:102:1
 same-length : tie.Need-same-length Inv-loop μ-loop
 same-length c = search needs
 
--- src/main.rt:102:1
-returns-2 : tie.Need-returns-2 Inv-loop μ-loop
-returns-2 c = search needs
+returns-3 : tie.Need-returns-3 Inv-loop μ-loop
+returns-3 c = search needs
 
 pub shift-spec : {M : Type 1} → statement M
 shift-spec =
@@ -67,7 +54,8 @@ shift-spec =
     Inv-loop
     μ-loop
     returns
-    sub-n
+    sub-size
+    returns-2
     loop-holds
     add-at8
     at8-requires
@@ -76,4 +64,4 @@ shift-spec =
     loop-less
     loop-again
     same-length
-    returns-2)
+    returns-3)
