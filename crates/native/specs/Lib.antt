@@ -1,0 +1,3 @@
+pub mod Copies
+pub mod Faces
+pub mod Ticks
