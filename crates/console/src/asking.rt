@@ -165,7 +165,7 @@ fn parsed(line: &[u8], bytes: &mut [u8], types: &mut [u32], words: &mut [u32]) -
 }
 
 // The request of the line that was found in a buffer; its bytes and values.
-pub fn asked(
+pub(super) fn asked(
     buffer: &[u8],
     place: Place,
     bytes: &mut [u8],

@@ -27,7 +27,7 @@ fn begin<'b>(file: &[u8], count: u32, types: &'b [u32], words: &'b [u32]) -> Tic
 }
 
 // No machine: none is started on no bytes.
-pub fn none() -> Dock {
+pub(super) fn none() -> Dock {
     let no_values = [0u32; 1];
     let refused = begin(b"", 0, &no_values, &no_values);
     let machine = refused.machine;
@@ -96,7 +96,7 @@ fn call<'b>(request: Request, types: &'b [u32], words: &'b [u32], machine: Machi
 }
 
 // The answer to a request; `none` where there is no machine.
-pub fn answer<'b>(
+pub(super) fn answer<'b>(
     request: Request,
     bytes: &[u8],
     types: &'b [u32],

@@ -50,7 +50,7 @@ fn served(request: Request, bytes: &[u8], file: &mut [u8]) {
 }
 
 // The answer to one of them; `error` to a line that is malformed.
-pub fn answer(request: Request, bytes: &[u8]) {
+pub(super) fn answer(request: Request, bytes: &[u8]) {
     let mut file = super::room();
     served(request, bytes, &mut file);
 }

@@ -14,7 +14,7 @@ pub struct Place {
 }
 
 // Nothing found yet; what is held stands at the front.
-pub fn held(to: usize, over: bool) -> Place {
+pub(super) fn held(to: usize, over: bool) -> Place {
     Place {
         found: 0,
         begin: 0,
@@ -100,7 +100,7 @@ fn more(buffer: &mut [u8], from: usize, to: usize, over: bool) -> Place {
 }
 
 // The next line that ends in what is held; more of the input, if none does.
-pub fn next(buffer: &mut [u8], before: Place) -> Place {
+pub(super) fn next(buffer: &mut [u8], before: Place) -> Place {
     let from = before.from;
     let to = least(before.to, buffer.len());
     let end = lines::find(&buffer[0..to], from, 10);

@@ -39,7 +39,7 @@ fn stands(at: Standing) {
 }
 
 // Where a machine stands, and its ports.
-pub fn say<'a>(at: Standing, roles: &'a [u32], types: &'a [u32], ports: &'a [u32]) {
+pub(super) fn say<'a>(at: Standing, roles: &'a [u32], types: &'a [u32], ports: &'a [u32]) {
     stands(at);
     io::write_all(STDOUT_FILENO, b" ports=");
     let mut out = [0u8; 8192];

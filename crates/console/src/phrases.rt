@@ -38,23 +38,23 @@ fn with(word: usize, numbers: u8, first: u64, second: u64) -> Phrase {
     }
 }
 
-pub fn error() -> Phrase {
+pub(super) fn error() -> Phrase {
     with(ERROR, 0, 0, 0)
 }
 
-pub fn none() -> Phrase {
+pub(super) fn none() -> Phrase {
     with(NONE, 0, 0, 0)
 }
 
-pub fn refused(number: u8) -> Phrase {
+pub(super) fn refused(number: u8) -> Phrase {
     with(REFUSED, 1, number as u64, 0)
 }
 
-pub fn refused_at(number: u8, place: usize) -> Phrase {
+pub(super) fn refused_at(number: u8, place: usize) -> Phrase {
     with(REFUSED, 2, number as u64, place as u64)
 }
 
-pub fn reaction(answer: Reaction) -> Phrase {
+pub(super) fn reaction(answer: Reaction) -> Phrase {
     match answer {
         Reaction::Obeyed(n) => with(OK, 1, n as u64, 0),
         Reaction::Idle => with(OK, 1, 0, 0),
@@ -64,7 +64,7 @@ pub fn reaction(answer: Reaction) -> Phrase {
     }
 }
 
-pub fn turn(answer: Turn) -> Phrase {
+pub(super) fn turn(answer: Turn) -> Phrase {
     match answer {
         Turn::Task(task) => with(TASK, 1, task as u64, 0),
         Turn::Nobody => none(),
@@ -72,7 +72,7 @@ pub fn turn(answer: Turn) -> Phrase {
     }
 }
 
-pub fn finishing(answer: Finishing) -> Phrase {
+pub(super) fn finishing(answer: Finishing) -> Phrase {
     match answer {
         Finishing::Taken => with(OK, 1, 0, 0),
         Finishing::Refused(n) => refused(n),
@@ -99,7 +99,7 @@ fn number(is_said: bool, number: u64) {
     io::print_decimal(STDOUT_FILENO, number);
 }
 
-pub fn say(phrase: Phrase) {
+pub(super) fn say(phrase: Phrase) {
     word(b"error ok refused fault task none", phrase.word);
     number(phrase.numbers > 0, phrase.first);
     number(phrase.numbers > 1, phrase.second);
@@ -107,7 +107,7 @@ pub fn say(phrase: Phrase) {
 }
 
 // What stands in a buffer, and an LF.
-pub fn send(out: &[u8], size: usize) {
+pub(super) fn send(out: &[u8], size: usize) {
     let end = least(size, out.len());
     io::write_all(STDOUT_FILENO, &out[0..end]);
     io::write_all(STDOUT_FILENO, b"\n");
@@ -121,7 +121,7 @@ fn put_file(out: &mut [u8], bytes: &[u8], size: usize) {
 }
 
 // A file, of the first bytes of a buffer.
-pub fn file(bytes: &[u8], size: usize) {
+pub(super) fn file(bytes: &[u8], size: usize) {
     let mut out = super::room();
     put_file(&mut out, bytes, size);
 }

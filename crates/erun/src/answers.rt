@@ -4,14 +4,14 @@ use machine::Reaction;
 use machine::Turn;
 use traces::Said;
 
-pub fn spoken(kind: u8, number: u32) -> Said {
+pub(super) fn spoken(kind: u8, number: u32) -> Said {
     Said {
         kind: kind,
         number: number,
     }
 }
 
-pub fn of_reaction(answer: Reaction) -> Said {
+pub(super) fn of_reaction(answer: Reaction) -> Said {
     match answer {
         Reaction::Obeyed(n) => spoken(traces::OBEYED, n),
         Reaction::Idle => spoken(traces::IDLE, 0),
@@ -21,7 +21,7 @@ pub fn of_reaction(answer: Reaction) -> Said {
     }
 }
 
-pub fn of_turn(answer: Turn) -> Said {
+pub(super) fn of_turn(answer: Turn) -> Said {
     match answer {
         Turn::Task(k) => spoken(traces::TASK, k),
         Turn::Nobody => spoken(traces::NOBODY, 0),
@@ -29,7 +29,7 @@ pub fn of_turn(answer: Turn) -> Said {
     }
 }
 
-pub fn of_finishing(answer: Finishing) -> Said {
+pub(super) fn of_finishing(answer: Finishing) -> Said {
     match answer {
         Finishing::Taken => spoken(traces::TAKEN, 0),
         Finishing::Refused(n) => spoken(traces::REFUSED, n as u32),

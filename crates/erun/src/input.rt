@@ -34,7 +34,7 @@ fn nothing(lines: u64, next: usize, end: usize, over: bool) -> Input {
 }
 
 // Before the first line, whose number is 0.
-pub fn beginning() -> Input {
+pub(super) fn beginning() -> Input {
     nothing(u64::MAX, 0, 0, false)
 }
 
@@ -131,7 +131,7 @@ fn more(buffer: &mut [u8], before: Input, next: usize, end: usize) -> Input
 }
 
 // The next line, or more of the input.
-pub fn step(buffer: &mut [u8], before: Input) -> Input {
+pub(super) fn step(buffer: &mut [u8], before: Input) -> Input {
     let end = least(before.end, buffer.len());
     let next = least(before.next, end);
     let stop = lines::find(&buffer[0..end], next, 10);
@@ -142,7 +142,7 @@ pub fn step(buffer: &mut [u8], before: Input) -> Input {
 }
 
 // The first line.
-pub fn first(buffer: &mut [u8]) -> Input {
+pub(super) fn first(buffer: &mut [u8]) -> Input {
     let mut input = beginning();
     let mut turns = u64::MAX;
     while turns > 0 {

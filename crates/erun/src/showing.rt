@@ -5,7 +5,7 @@ use scripts::Call;
 use traces::Said;
 
 // Where a machine stands before its start.
-pub fn unstarted() -> Standing {
+pub(super) fn unstarted() -> Standing {
     Standing {
         clock: 0,
         remaining: 0,
@@ -35,7 +35,7 @@ fn old_ports(call: Call, before: [u32; 320], starts: [u32; 320]) -> [u32; 320] {
 }
 
 // The trace of a call, from what stood before and the machine behind it.
-pub fn show(call: Call, said: Said, before: Standing, held: [u32; 320], machine: Machine) {
+pub(super) fn show(call: Call, said: Said, before: Standing, held: [u32; 320], machine: Machine) {
     let stands = machine.standing;
     let starts = machine.table.starts;
     let were = old_ports(call, held, starts);

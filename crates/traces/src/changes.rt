@@ -59,14 +59,14 @@ fn mode(mode_names: &[u8], old: u32, new: u32) {
 }
 
 // The clock and the mode, where they changed.
-pub fn clock(mode_names: &[u8], old: Standing, new: Standing) {
+pub(super) fn clock(mode_names: &[u8], old: Standing, new: Standing) {
     number(b"  count ", old.clock, new.clock);
     number(b"  remaining ", old.remaining, new.remaining);
     mode(mode_names, old.mode, new.mode);
 }
 
 // The lists of tasks and whether the machine is stopped, where they changed.
-pub fn lists(task_names: &[u8], old: Standing, new: Standing) {
+pub(super) fn lists(task_names: &[u8], old: Standing, new: Standing) {
     if old.out != new.out {
         list(b"  out:", task_names, new.out);
     }
@@ -116,7 +116,7 @@ fn port<'a>(
 }
 
 // The ports that changed.
-pub fn ports<'a>(
+pub(super) fn ports<'a>(
     roles: &'a [u32],
     types: &'a [u32],
     old: &'a [u32],
@@ -163,7 +163,7 @@ fn numbered(name: &[u8], number: u32) {
 }
 
 // The clock, the mode, the lists of tasks, and whether the machine is stopped.
-pub fn standing<'a>(mode_names: &'a [u8], task_names: &'a [u8], seen: Standing) {
+pub(super) fn standing<'a>(mode_names: &'a [u8], task_names: &'a [u8], seen: Standing) {
     numbered(b"count ", seen.clock);
     numbered(b"remaining ", seen.remaining);
     pieces::put(b"mode ");
@@ -178,7 +178,7 @@ pub fn standing<'a>(mode_names: &'a [u8], task_names: &'a [u8], seen: Standing) 
 }
 
 // Every port and what it holds.
-pub fn held<'a>(
+pub(super) fn held<'a>(
     roles: &'a [u32],
     types: &'a [u32],
     ports: &'a [u32],

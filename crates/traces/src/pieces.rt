@@ -2,7 +2,7 @@
 use libc::STDOUT_FILENO;
 ghost use Prim.Native.Nat.{_≤_};
 
-pub fn least(many: usize, room: usize) -> usize
+pub(super) fn least(many: usize, room: usize) -> usize
     ensures { λ r. ⌜ r ≤ room ⌝ }
 {
     if many < room {
@@ -11,11 +11,11 @@ pub fn least(many: usize, room: usize) -> usize
     room
 }
 
-pub fn put(words: &[u8]) {
+pub(super) fn put(words: &[u8]) {
     io::write_all(STDOUT_FILENO, words);
 }
 
-pub fn number(number: u64) {
+pub(super) fn number(number: u64) {
     io::print_decimal(STDOUT_FILENO, number);
 }
 
@@ -26,19 +26,19 @@ fn first(buffer: &[u8], size: usize) {
 }
 
 // The name in a row of names.
-pub fn name(names: &[u8], row: usize) {
+pub(super) fn name(names: &[u8], row: usize) {
     let mut buffer = [0u8; 32];
     let size = naming::name(&mut buffer, 0, names, row);
     first(&buffer, size);
 }
 
 // A task by its number.
-pub fn task(task_names: &[u8], number: u32) {
+pub(super) fn task(task_names: &[u8], number: u32) {
     name(task_names, cells::wide32(number) * 2);
 }
 
 // A port by its number.
-pub fn port<'a>(
+pub(super) fn port<'a>(
     number: u32,
     sensors: u32,
     actuators: u32,
@@ -67,7 +67,7 @@ pub fn port<'a>(
 }
 
 // A word as a value of its type.
-pub fn value(typ: u32, word: u32) {
+pub(super) fn value(typ: u32, word: u32) {
     if typ == 1 {
         if word == 0 {
             put(b"false");
@@ -85,7 +85,7 @@ pub fn value(typ: u32, word: u32) {
 }
 
 // A mode by its number; `-` for none.
-pub fn mode(mode_names: &[u8], number: u32) {
+pub(super) fn mode(mode_names: &[u8], number: u32) {
     if number >= 8 {
         put(b"-");
         return;
