@@ -1,5 +1,5 @@
-// The items of a text: one at a place, and the first pass over all of them.
-// Promises that an item is what text's definition says of its place and state, and that the first pass answers with the leftmost 2 or 3.
+// The items of a text, one at a place, and the answers of the first pass over all of them.
+// Promises that an item is what text's definition says of its place and state.
 // Builds on productions, wants, scan, text and model.
 ghost use mathlib.Core.Path.{_≡_};
 ghost use Rattle.text.specs.Items.{itemAt};
@@ -17,7 +17,6 @@ mod sections;
 mod tasks;
 
 pub use pass::FirstPass;
-pub use pass::syntax;
 
 // The item at a place, in a state.
 pub fn item(s: &[u8], state: State, at: usize) -> ReadItem
@@ -34,7 +33,7 @@ pub fn item(s: &[u8], state: State, at: usize) -> ReadItem
         State::Task(k) => tasks::body(s, k, g),
         State::Mode(k) => modes::body(s, k, g),
         State::Act(k) => acts::act(s, k, g),
-        State::Guarded(k) => acts::target(s, k, g),
+        State::Guarded(k) => acts::guarded(s, k, g),
         State::GuardArgs(k) => activities::guard_arg(s, k, g),
         State::Args => activities::arg(s, g),
         State::Finish => modules::finish(s, g),

@@ -1,5 +1,6 @@
 // The body of a module.
 ghost use mathlib.Core.Path.{_≡_};
+ghost use Rattle.text.specs.Tokens.{tokenAt};
 ghost use Rattle.text.specs.Items.{declarationAt, sectionAt, moduleBodyAt, finishAt};
 use super::sections;
 use productions::close;
@@ -8,45 +9,49 @@ use productions::modes;
 use productions::tasks;
 use text::Got;
 use text::Item;
+use text::Lexed;
 use text::ReadItem;
 use text::State;
 use text::Token;
-use wants::signs;
 
 // A declaration in section k.
-fn declaration(s: &[u8], k: u8, g: Got) -> ReadItem
+fn declaration(s: &[u8], k: u8, g: Got, found: Lexed) -> ReadItem
+    requires { ⌜ found ≡ tokenAt (now s) (g .end) ⌝ }
     ensures { λ r. ⌜ r ≡ declarationAt (now (s .entry)) k g ⌝ }
 {
+    let first = wants::given(g, found, Token::Name);
     if k == 2 {
-        return declarations::constant(s, g);
+        return declarations::constant(s, first);
     }
     if k == 3 {
-        return declarations::sensor(s, g);
+        return declarations::sensor(s, first);
     }
     if k == 4 {
-        return declarations::actuator(s, g);
+        return declarations::actuator(s, first);
     }
-    sections::refused(s, g)
+    sections::refused(found)
 }
 
 // Section w, in section k.
-fn section(s: &[u8], k: u8, w: u8, g: Got) -> ReadItem
+fn section(s: &[u8], k: u8, w: u8, g: Got, found: Lexed) -> ReadItem
+    requires { ⌜ found ≡ tokenAt (now s) (g .end) ⌝ }
     ensures { λ r. ⌜ r ≡ sectionAt (now (s .entry)) k w g ⌝ }
 {
     if w < k {
-        return sections::refused(s, g);
+        return sections::refused(found);
     }
     if w == 5 {
-        return tasks::begin(s, g);
+        let word = wants::given(g, found, Token::KeyTask);
+        return tasks::begin(s, word);
     }
     if w == 6 {
-        return modes::begin(s, g);
+        return modes::begin(s, g, found);
     }
     if w == 7 {
-        let brace = signs::right_brace(s, g);
+        let brace = wants::given(g, found, Token::RightBrace);
         return close(Item::ModuleEnd, State::Finish, brace);
     }
-    let word = wants::any(s, g);
+    let word = wants::given_any(g, found);
     close(Item::Section, State::Module(w), word)
 }
 
@@ -54,19 +59,19 @@ pub fn body(s: &[u8], k: u8, g: Got) -> ReadItem
     ensures { λ r. ⌜ r ≡ moduleBodyAt (now (s .entry)) k g ⌝ }
 {
     let at = g.end;
-    let next = scan::token(s, at);
-    let token = next.token;
+    let found = scan::token(s, at);
+    let token = found.token;
     let Token::Name = token else {
         let w = sections::of_module(token);
-        return section(s, k, w, g);
+        return section(s, k, w, g, found);
     };
-    declaration(s, k, g)
+    declaration(s, k, g, found)
 }
 
 // The end of the text.
 pub fn finish(s: &[u8], g: Got) -> ReadItem
     ensures { λ r. ⌜ r ≡ finishAt (now (s .entry)) g ⌝ }
 {
-    let last = wants::end(s, g);
+    let last = wants::next(s, g, Token::End);
     close(Item::End, State::Finish, last)
 }

@@ -1,9 +1,12 @@
 // Sections: a keyword may stand where its section is not behind. 0 is the section of every other token.
 ghost use mathlib.Core.Path.{_≡_};
 ghost use Rattle.text.specs.Tokens.{codeOf};
-ghost use Rattle.text.specs.Items.{refusedAt, sectionOf, portionOf, partOf};
-use text::Got;
+ghost use Rattle.text.specs.declared.Item.{Item};
+ghost use Rattle.text.specs.declared.State.{State};
+ghost use Rattle.text.specs.Expect.{refusal, closed};
+ghost use Rattle.text.specs.Items.{sectionOf, portionOf, partOf};
 use text::Item;
+use text::Lexed;
 use text::ReadItem;
 use text::State;
 use text::Token;
@@ -49,12 +52,10 @@ pub fn of_mode(token: Token) -> u8
     }
 }
 
-// No token that may stand here.
-pub fn refused(s: &[u8], g: Got) -> ReadItem
-    ensures { λ r. ⌜ r ≡ refusedAt (now (s .entry)) g ⌝ }
+// A token that may not stand here.
+pub fn refused(found: Lexed) -> ReadItem
+    ensures { λ r. ⌜ r ≡ closed Item.Section State.Finish (refusal found) ⌝ }
 {
-    let at = g.end;
-    let next = scan::token(s, at);
-    let last = wants::refusal(next);
+    let last = wants::refusal(found);
     productions::close(Item::Section, State::Finish, last)
 }

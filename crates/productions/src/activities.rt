@@ -1,6 +1,8 @@
 // What an activity does, and its guard.
 ghost use mathlib.Core.Path.{_≡_};
+ghost use Rattle.text.specs.declared.Token.{Token};
 ghost use Rattle.text.specs.Productions.{guardAt, guardArgAt, invokeAt, argAt, updateAt, switchAt};
+ghost use Rattle.productions.specs.Behind.{Behind};
 use super::close;
 use super::lists;
 use super::name_of;
@@ -10,20 +12,18 @@ use text::Item;
 use text::ReadItem;
 use text::State;
 use text::Token;
-use wants::keys;
-use wants::signs;
 
-// "if" name "(", and ")" "then" where it has no argument
-pub fn guard(s: &[u8], k: u8, g: Got) -> ReadItem
-    ensures { λ r. ⌜ r ≡ guardAt (now (s .entry)) k g ⌝ }
+// "if", which is read, name "(", and ")" "then" where it has no argument
+pub fn guard(s: &[u8], k: u8, word: Got) -> ReadItem
+    ensures { λ r. ⌜ Behind Token.KeyIf (now (s .entry)) word (guardAt (now (s .entry)) k) r ⌝ }
 {
-    let word = keys::key_if(s, g);
-    let name = wants::name(s, word);
-    let paren = signs::left_paren(s, name);
+    let name = wants::next(s, word, Token::Name);
+    let paren = wants::next(s, name, Token::LeftParen);
     let at = paren.end;
-    if scan::stands(s, at, Token::RightParen) {
-        let closing = signs::right_paren(s, paren);
-        let last = keys::key_then(s, closing);
+    let found = scan::token(s, at);
+    if wants::stands(found, Token::RightParen) {
+        let closing = wants::given(paren, found, Token::RightParen);
+        let last = wants::next(s, closing, Token::KeyThen);
         return close(
             Item::Guard {
                 name: name_of(name),
@@ -33,7 +33,7 @@ pub fn guard(s: &[u8], k: u8, g: Got) -> ReadItem
             last,
         );
     }
-    let count = lists::count(s, at);
+    let count = lists::count(s, at, found);
     close(
         Item::Guard {
             name: name_of(name),
@@ -49,28 +49,28 @@ pub fn guard_arg(s: &[u8], k: u8, g: Got) -> ReadItem
     ensures { λ r. ⌜ r ≡ guardArgAt (now (s .entry)) k g ⌝ }
 {
     let arg = ports::read(s, g);
-    let past = ports::past(arg);
+    let past = arg.past;
     let port = arg.port;
-    let at = arg.end;
-    if scan::stands(s, at, Token::Comma) {
-        let last = signs::comma(s, past);
+    let found = arg.found;
+    if wants::stands(found, Token::Comma) {
+        let last = wants::given(past, found, Token::Comma);
         return close(Item::GuardArg(port), State::GuardArgs(k), last);
     }
-    let closing = signs::right_paren(s, past);
-    let last = keys::key_then(s, closing);
+    let closing = wants::given(past, found, Token::RightParen);
+    let last = wants::next(s, closing, Token::KeyThen);
     close(Item::GuardArg(port), State::Guarded(k), last)
 }
 
-// name "(", and ")" ";" where it has no port
-pub fn invoke(s: &[u8], g: Got) -> ReadItem
-    ensures { λ r. ⌜ r ≡ invokeAt (now (s .entry)) g ⌝ }
+// name, which is read, "(", and ")" ";" where it has no port
+pub fn invoke(s: &[u8], name: Got) -> ReadItem
+    ensures { λ r. ⌜ Behind Token.Name (now (s .entry)) name (invokeAt (now (s .entry))) r ⌝ }
 {
-    let name = wants::name(s, g);
-    let paren = signs::left_paren(s, name);
+    let paren = wants::next(s, name, Token::LeftParen);
     let at = paren.end;
-    if scan::stands(s, at, Token::RightParen) {
-        let closing = signs::right_paren(s, paren);
-        let last = signs::semicolon(s, closing);
+    let found = scan::token(s, at);
+    if wants::stands(found, Token::RightParen) {
+        let closing = wants::given(paren, found, Token::RightParen);
+        let last = wants::next(s, closing, Token::Semicolon);
         return close(
             Item::Invoke {
                 task: name_of(name),
@@ -80,7 +80,7 @@ pub fn invoke(s: &[u8], g: Got) -> ReadItem
             last,
         );
     }
-    let count = lists::count(s, at);
+    let count = lists::count(s, at, found);
     close(
         Item::Invoke {
             task: name_of(name),
@@ -96,27 +96,28 @@ pub fn arg(s: &[u8], g: Got) -> ReadItem
     ensures { λ r. ⌜ r ≡ argAt (now (s .entry)) g ⌝ }
 {
     let arg = ports::read(s, g);
-    let past = ports::past(arg);
+    let past = arg.past;
     let port = arg.port;
-    let at = arg.end;
-    if scan::stands(s, at, Token::Comma) {
-        let last = signs::comma(s, past);
+    let found = arg.found;
+    if wants::stands(found, Token::Comma) {
+        let last = wants::given(past, found, Token::Comma);
         return close(Item::Arg(port), State::Args, last);
     }
-    let closing = signs::right_paren(s, past);
-    let last = signs::semicolon(s, closing);
+    let closing = wants::given(past, found, Token::RightParen);
+    let last = wants::next(s, closing, Token::Semicolon);
     close(Item::Arg(port), State::Mode(2), last)
 }
 
-// name ":=" port ";"
-pub fn update(s: &[u8], g: Got) -> ReadItem
-    ensures { λ r. ⌜ r ≡ updateAt (now (s .entry)) g ⌝ }
+// name, which is read, ":=" port ";"
+pub fn update(s: &[u8], name: Got) -> ReadItem
+    ensures { λ r. ⌜ Behind Token.Name (now (s .entry)) name (updateAt (now (s .entry))) r ⌝ }
 {
-    let name = wants::name(s, g);
-    let becomes = signs::becomes(s, name);
+    let becomes = wants::next(s, name, Token::Becomes);
     let read = ports::read(s, becomes);
-    let last = signs::semicolon(s, ports::past(read));
+    let past = read.past;
     let source = read.port;
+    let found = read.found;
+    let last = wants::given(past, found, Token::Semicolon);
     close(
         Item::Update {
             actuator: name_of(name),
@@ -127,11 +128,10 @@ pub fn update(s: &[u8], g: Got) -> ReadItem
     )
 }
 
-// name ";"
-pub fn switch(s: &[u8], g: Got) -> ReadItem
-    ensures { λ r. ⌜ r ≡ switchAt (now (s .entry)) g ⌝ }
+// name, which is read, ";"
+pub fn switch(s: &[u8], name: Got) -> ReadItem
+    ensures { λ r. ⌜ Behind Token.Name (now (s .entry)) name (switchAt (now (s .entry))) r ⌝ }
 {
-    let name = wants::name(s, g);
-    let last = signs::semicolon(s, name);
+    let last = wants::next(s, name, Token::Semicolon);
     close(Item::Switch(name_of(name)), State::Mode(4), last)
 }

@@ -1,6 +1,8 @@
 // The module's head and its declarations: constants, sensors and actuators.
 ghost use mathlib.Core.Path.{_≡_};
+ghost use Rattle.text.specs.declared.Token.{Token};
 ghost use Rattle.text.specs.Productions.{moduleAt, constantAt, sensorAt, actuatorAt};
+ghost use Rattle.productions.specs.Behind.{Behind};
 use super::close;
 use super::literals;
 use super::name_of;
@@ -8,27 +10,25 @@ use text::Got;
 use text::Item;
 use text::ReadItem;
 use text::State;
-use wants::keys;
-use wants::signs;
+use text::Token;
 
 // "module" name "{"
 pub fn module(s: &[u8], g: Got) -> ReadItem
     ensures { λ r. ⌜ r ≡ moduleAt (now (s .entry)) g ⌝ }
 {
-    let word = keys::key_module(s, g);
-    let name = wants::name(s, word);
-    let last = signs::left_brace(s, name);
+    let word = wants::next(s, g, Token::KeyModule);
+    let name = wants::next(s, word, Token::Name);
+    let last = wants::next(s, name, Token::LeftBrace);
     close(Item::Module(name_of(name)), State::Module(1), last)
 }
 
-// name "=" value ";"
-pub fn constant(s: &[u8], g: Got) -> ReadItem
-    ensures { λ r. ⌜ r ≡ constantAt (now (s .entry)) g ⌝ }
+// name, which is read, "=" value ";"
+pub fn constant(s: &[u8], name: Got) -> ReadItem
+    ensures { λ r. ⌜ Behind Token.Name (now (s .entry)) name (constantAt (now (s .entry))) r ⌝ }
 {
-    let name = wants::name(s, g);
-    let equals = signs::equals(s, name);
+    let equals = wants::next(s, name, Token::Equals);
     let read = literals::read(s, equals);
-    let last = signs::semicolon(s, literals::past(read));
+    let last = wants::next(s, literals::past(read), Token::Semicolon);
     let value = read.literal;
     close(
         Item::Constant {
@@ -40,15 +40,14 @@ pub fn constant(s: &[u8], g: Got) -> ReadItem
     )
 }
 
-// type name "uses" name ";"
-pub fn sensor(s: &[u8], g: Got) -> ReadItem
-    ensures { λ r. ⌜ r ≡ sensorAt (now (s .entry)) g ⌝ }
+// type, which is read, name "uses" name ";"
+pub fn sensor(s: &[u8], typ: Got) -> ReadItem
+    ensures { λ r. ⌜ Behind Token.Name (now (s .entry)) typ (sensorAt (now (s .entry))) r ⌝ }
 {
-    let typ = wants::name(s, g);
-    let name = wants::name(s, typ);
-    let uses = keys::key_uses(s, name);
-    let getter = wants::name(s, uses);
-    let last = signs::semicolon(s, getter);
+    let name = wants::next(s, typ, Token::Name);
+    let uses = wants::next(s, name, Token::KeyUses);
+    let getter = wants::next(s, uses, Token::Name);
+    let last = wants::next(s, getter, Token::Semicolon);
     let item = Item::Sensor {
         typ: name_of(typ),
         name: name_of(name),
@@ -57,17 +56,16 @@ pub fn sensor(s: &[u8], g: Got) -> ReadItem
     close(item, State::Module(3), last)
 }
 
-// type name ":=" value "uses" name ";"
-pub fn actuator(s: &[u8], g: Got) -> ReadItem
-    ensures { λ r. ⌜ r ≡ actuatorAt (now (s .entry)) g ⌝ }
+// type, which is read, name ":=" value "uses" name ";"
+pub fn actuator(s: &[u8], typ: Got) -> ReadItem
+    ensures { λ r. ⌜ Behind Token.Name (now (s .entry)) typ (actuatorAt (now (s .entry))) r ⌝ }
 {
-    let typ = wants::name(s, g);
-    let name = wants::name(s, typ);
-    let becomes = signs::becomes(s, name);
+    let name = wants::next(s, typ, Token::Name);
+    let becomes = wants::next(s, name, Token::Becomes);
     let read = literals::read(s, becomes);
-    let uses = keys::key_uses(s, literals::past(read));
-    let setter = wants::name(s, uses);
-    let last = signs::semicolon(s, setter);
+    let uses = wants::next(s, literals::past(read), Token::KeyUses);
+    let setter = wants::next(s, uses, Token::Name);
+    let last = wants::next(s, setter, Token::Semicolon);
     let value = read.literal;
     let item = Item::Actuator {
         typ: name_of(typ),

@@ -1,11 +1,12 @@
 // How many arguments stand between parentheses.
 ghost use mathlib.Core.Path.{_≡_};
-ghost use Rattle.text.specs.Productions.{isPart, countAt};
-ghost use Rattle.text.specs.Tokens.{codeOf};
+ghost use Rattle.text.specs.Productions.{countAt};
+ghost use Rattle.text.specs.Tokens.{tokenAt};
+use text::Lexed;
 use text::Token;
 
 // The number of arguments behind "(", where ")" does not follow at once.
-pub fn count(s: &[u8], at: usize) -> usize
+fn counted(s: &[u8], at: usize) -> usize
     ensures { λ r. ⌜ r ≡ countAt (now (s .entry)) at ⌝ }
 {
     let mut i = at;
@@ -24,4 +25,16 @@ pub fn count(s: &[u8], at: usize) -> usize
         i = next.end;
     }
     n
+}
+
+// The same where the first token is found: a first name is not looked at again.
+pub fn count(s: &[u8], at: usize, found: Lexed) -> usize
+    requires { ⌜ found ≡ tokenAt (now s) at ⌝ }
+    ensures { λ r. ⌜ r ≡ countAt (now (s .entry)) at ⌝ }
+{
+    if wants::stands(found, Token::Name) {
+        let end = found.end;
+        return counted(s, end);
+    }
+    counted(s, at)
 }

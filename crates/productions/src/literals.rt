@@ -1,12 +1,13 @@
 // Value: "true", "false", ["-"] number, or an earlier constant's name.
 ghost use mathlib.Core.Path.{_≡_};
-ghost use Rattle.text.specs.Productions.{literalOf, pastLiteral, truthAt, minusAt, numberAt, namedAt, literalAt};
+ghost use Rattle.text.specs.declared.Literal.the-variants.{Truth, Number};
+ghost use Rattle.text.specs.Expect.{nameOf};
+ghost use Rattle.text.specs.Productions.{literalOf, pastLiteral, literalAt};
 use super::name_of;
 use text::Got;
 use text::Literal;
 use text::ReadLiteral;
 use text::Token;
-use wants::signs;
 
 fn with(last: Got, literal: Literal) -> ReadLiteral
     ensures { λ r. ⌜ r ≡ literalOf last literal ⌝ }
@@ -30,72 +31,52 @@ pub fn past(read: ReadLiteral) -> Got
     }
 }
 
-fn truth(s: &[u8], g: Got, truth: bool) -> ReadLiteral
-    ensures { λ r. ⌜ r ≡ truthAt (now (s .entry)) g truth ⌝ }
+fn truth(word: Got, yes: bool) -> ReadLiteral
+    ensures { λ r. ⌜ r ≡ literalOf word (Truth (word .start) yes) ⌝ }
 {
-    let word = wants::any(s, g);
     with(
         word,
         Literal::Truth {
             at: word.start,
-            yes: truth,
+            yes: yes,
         },
     )
 }
 
-fn minus(s: &[u8], g: Got) -> ReadLiteral
-    ensures { λ r. ⌜ r ≡ minusAt (now (s .entry)) g ⌝ }
+// A number and the token that it starts with, its minus or itself.
+fn number(first: Got, number: Got, minus: bool) -> ReadLiteral
+    ensures { λ r. ⌜ r ≡ literalOf number (Number (first .start) (nameOf number) minus) ⌝ }
 {
-    let minus = signs::minus(s, g);
-    let number = wants::number(s, minus);
     let digits = name_of(number);
     with(
         number,
         Literal::Number {
-            at: minus.start,
+            at: first.start,
             digits: digits,
-            minus: true,
+            minus: minus,
         },
     )
-}
-
-fn number(s: &[u8], g: Got) -> ReadLiteral
-    ensures { λ r. ⌜ r ≡ numberAt (now (s .entry)) g ⌝ }
-{
-    let number = wants::number(s, g);
-    let digits = name_of(number);
-    with(
-        number,
-        Literal::Number {
-            at: number.start,
-            digits: digits,
-            minus: false,
-        },
-    )
-}
-
-fn named(s: &[u8], g: Got) -> ReadLiteral
-    ensures { λ r. ⌜ r ≡ namedAt (now (s .entry)) g ⌝ }
-{
-    let name = wants::name(s, g);
-    with(name, Literal::Named(name_of(name)))
 }
 
 pub fn read(s: &[u8], g: Got) -> ReadLiteral
     ensures { λ r. ⌜ r ≡ literalAt (now (s .entry)) g ⌝ }
 {
     let at = g.end;
-    if scan::stands(s, at, Token::KeyTrue) {
-        return truth(s, g, true);
+    let found = scan::token(s, at);
+    if wants::stands(found, Token::KeyTrue) {
+        return truth(wants::given_any(g, found), true);
     }
-    if scan::stands(s, at, Token::KeyFalse) {
-        return truth(s, g, false);
+    if wants::stands(found, Token::KeyFalse) {
+        return truth(wants::given_any(g, found), false);
     }
-    if scan::stands(s, at, Token::Minus) {
-        return minus(s, g);
+    if wants::stands(found, Token::Minus) {
+        let minus = wants::given(g, found, Token::Minus);
+        return number(minus, wants::next(s, minus, Token::Number), true);
     }
-    if scan::stands(s, at, Token::Number) {
-        return number(s, g);
+    if wants::stands(found, Token::Number) {
+        let digits = wants::given(g, found, Token::Number);
+        return number(digits, digits, false);
     }
-    named(s, g)
+    let name = wants::given(g, found, Token::Name);
+    with(name, Literal::Named(name_of(name)))
 }

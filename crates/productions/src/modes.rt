@@ -1,16 +1,18 @@
 // Mode: its head, and the head of an activity in it.
 ghost use mathlib.Core.Path.{_≡_};
 ghost use Rattle.text.specs.Expect.{either as eitherOf};
+ghost use Rattle.text.specs.declared.Token.{Token};
+ghost use Rattle.text.specs.Tokens.{tokenAt};
 ghost use Rattle.text.specs.Productions.{modeOf, modeAt, activityAt};
+ghost use Rattle.productions.specs.Behind.{Behind};
 use super::close;
 use super::name_of;
 use text::Got;
 use text::Item;
+use text::Lexed;
 use text::ReadItem;
 use text::State;
 use text::Token;
-use wants::keys;
-use wants::signs;
 
 // The first of two readings that is not refused.
 fn either(first: Got, second: Got) -> Got
@@ -26,16 +28,17 @@ fn either(first: Got, second: Got) -> Got
 fn behind(s: &[u8], start: bool, at: usize, word: Got) -> ReadItem
     ensures { λ r. ⌜ r ≡ modeOf (now (s .entry)) start at word ⌝ }
 {
-    let name = wants::name(s, word);
-    let bracket = signs::left_bracket(s, name);
+    let name = wants::next(s, word, Token::Name);
+    let bracket = wants::next(s, name, Token::LeftBracket);
     let period = wants::word(s, bracket, b"period");
-    let equals = signs::equals(s, period);
-    let number = wants::number(s, equals);
-    let milli = wants::word(s, number, b"ms");
-    let micro = wants::word(s, number, b"us");
+    let equals = wants::next(s, period, Token::Equals);
+    let number = wants::next(s, equals, Token::Number);
+    let letters = wants::next(s, number, Token::Name);
+    let milli = wants::spelt(s, letters, b"ms");
+    let micro = wants::spelt(s, letters, b"us");
     let unit = either(milli, micro);
-    let closing = signs::right_bracket(s, unit);
-    let last = signs::left_brace(s, closing);
+    let closing = wants::next(s, unit, Token::RightBracket);
+    let last = wants::next(s, closing, Token::LeftBrace);
     let item = Item::ModeBegin {
         start: start,
         at: at,
@@ -46,29 +49,27 @@ fn behind(s: &[u8], start: bool, at: usize, word: Got) -> ReadItem
     close(item, State::Mode(1), last)
 }
 
-// ["start"] "mode" and what follows
-pub fn begin(s: &[u8], g: Got) -> ReadItem
-    ensures { λ r. ⌜ r ≡ modeAt (now (s .entry)) g ⌝ }
+// ["start"] "mode" and what follows; the first token is found
+pub fn begin(s: &[u8], g: Got, found: Lexed) -> ReadItem
+    ensures { λ r. ⌜ (found ≡ tokenAt (now (s .entry)) (g .end) → r ≡ modeAt (now (s .entry)) g) ⌝ }
 {
-    let at = g.end;
-    if scan::stands(s, at, Token::KeyStart) {
-        let start = wants::any(s, g);
-        let word = keys::key_mode(s, start);
+    if wants::stands(found, Token::KeyStart) {
+        let start = wants::given_any(g, found);
+        let word = wants::next(s, start, Token::KeyMode);
         return behind(s, true, start.start, word);
     }
-    let word = keys::key_mode(s, g);
+    let word = wants::given(g, found, Token::KeyMode);
     behind(s, false, word.start, word)
 }
 
-// "[" "freq" "=" number "]", in section k
-pub fn activity(s: &[u8], k: u8, g: Got) -> ReadItem
-    ensures { λ r. ⌜ r ≡ activityAt (now (s .entry)) k g ⌝ }
+// "[", which is read, "freq" "=" number "]", in section k
+pub fn activity(s: &[u8], k: u8, bracket: Got) -> ReadItem
+    ensures { λ r. ⌜ Behind Token.LeftBracket (now (s .entry)) bracket (activityAt (now (s .entry)) k) r ⌝ }
 {
-    let bracket = signs::left_bracket(s, g);
     let freq = wants::word(s, bracket, b"freq");
-    let equals = signs::equals(s, freq);
-    let number = wants::number(s, equals);
-    let last = signs::right_bracket(s, number);
+    let equals = wants::next(s, freq, Token::Equals);
+    let number = wants::next(s, equals, Token::Number);
+    let last = wants::next(s, number, Token::RightBracket);
     let item = Item::Activity {
         kind: k,
         at: bracket.start,

@@ -1,49 +1,48 @@
 // Port: a sensor's name, or task "." output. Arg: a port or a constant's name.
 ghost use mathlib.Core.Path.{_≡_};
-ghost use Rattle.text.specs.Productions.{portOf, pastPort, portAt};
+ghost use Rattle.text.specs.Tokens.{tokenAt};
+ghost use Rattle.text.specs.Productions.{portOf, portAt};
+ghost use Rattle.productions.specs.Ahead.{aheadOf};
 use super::name_of;
 use text::Got;
+use text::Lexed;
 use text::Port;
-use text::ReadPort;
 use text::Token;
-use wants::signs;
 
-fn with(last: Got, first: Got, second: Got, dotted: bool) -> ReadPort
-    ensures { λ r. ⌜ r ≡ portOf last first second dotted ⌝ }
+// A port that was read, the reading that goes on behind it, and the token found there.
+pub struct Ahead {
+    pub past: Got,
+    pub port: Port,
+    pub found: Lexed,
+}
+
+fn with(last: Got, first: Got, second: Got, dotted: bool, found: Lexed) -> Ahead
+    ensures { λ r. ⌜ r ≡ aheadOf (portOf last first second dotted) found ⌝ }
 {
     let port = Port {
         first: name_of(first),
         second: name_of(second),
         dotted: dotted,
     };
-    ReadPort {
-        bad: last.bad,
-        start: last.start,
-        end: last.end,
+    Ahead {
+        past: last,
         port: port,
+        found: found,
     }
 }
 
-// A port as the reading that goes on behind it.
-pub fn past(read: ReadPort) -> Got
-    ensures { λ r. ⌜ r ≡ pastPort read ⌝ }
+pub fn read(s: &[u8], g: Got) -> Ahead
+    ensures { λ r. ⌜ r ≡ aheadOf (portAt (now (s .entry)) g) (tokenAt (now (s .entry)) (portAt (now (s .entry)) g .end)) ⌝ }
 {
-    Got {
-        bad: read.bad,
-        start: read.start,
-        end: read.end,
-    }
-}
-
-pub fn read(s: &[u8], g: Got) -> ReadPort
-    ensures { λ r. ⌜ r ≡ portAt (now (s .entry)) g ⌝ }
-{
-    let name = wants::name(s, g);
+    let name = wants::next(s, g, Token::Name);
     let at = name.end;
-    if scan::stands(s, at, Token::Dot) {
-        let dot = signs::dot(s, name);
-        let output = wants::name(s, dot);
-        return with(output, name, output, true);
+    let found = scan::token(s, at);
+    if wants::stands(found, Token::Dot) {
+        let dot = wants::given(name, found, Token::Dot);
+        let output = wants::next(s, dot, Token::Name);
+        let end = output.end;
+        let behind = scan::token(s, end);
+        return with(output, name, output, true, behind);
     }
-    with(name, name, name, false)
+    with(name, name, name, false, found)
 }

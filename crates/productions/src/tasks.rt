@@ -1,6 +1,8 @@
 // Task: name "{" {"input" {type name ";"}} {"output" {type name ":=" value ";"}} "uses" name ";" "}".
 ghost use mathlib.Core.Path.{_≡_};
+ghost use Rattle.text.specs.declared.Token.{Token};
 ghost use Rattle.text.specs.Productions.{taskAt, inputAt, outputAt, taskEndAt};
+ghost use Rattle.productions.specs.Behind.{Behind};
 use super::close;
 use super::literals;
 use super::name_of;
@@ -8,26 +10,23 @@ use text::Got;
 use text::Item;
 use text::ReadItem;
 use text::State;
-use wants::keys;
-use wants::signs;
+use text::Token;
 
-// "task" name "{"
-pub fn begin(s: &[u8], g: Got) -> ReadItem
-    ensures { λ r. ⌜ r ≡ taskAt (now (s .entry)) g ⌝ }
+// "task", which is read, name "{"
+pub fn begin(s: &[u8], word: Got) -> ReadItem
+    ensures { λ r. ⌜ Behind Token.KeyTask (now (s .entry)) word (taskAt (now (s .entry))) r ⌝ }
 {
-    let word = keys::key_task(s, g);
-    let name = wants::name(s, word);
-    let last = signs::left_brace(s, name);
+    let name = wants::next(s, word, Token::Name);
+    let last = wants::next(s, name, Token::LeftBrace);
     close(Item::TaskBegin(name_of(name)), State::Task(1), last)
 }
 
-// type name ";"
-pub fn input(s: &[u8], g: Got) -> ReadItem
-    ensures { λ r. ⌜ r ≡ inputAt (now (s .entry)) g ⌝ }
+// type, which is read, name ";"
+pub fn input(s: &[u8], typ: Got) -> ReadItem
+    ensures { λ r. ⌜ Behind Token.Name (now (s .entry)) typ (inputAt (now (s .entry))) r ⌝ }
 {
-    let typ = wants::name(s, g);
-    let name = wants::name(s, typ);
-    let last = signs::semicolon(s, name);
+    let name = wants::next(s, typ, Token::Name);
+    let last = wants::next(s, name, Token::Semicolon);
     close(
         Item::Input {
             typ: name_of(typ),
@@ -38,15 +37,14 @@ pub fn input(s: &[u8], g: Got) -> ReadItem
     )
 }
 
-// type name ":=" value ";"
-pub fn output(s: &[u8], g: Got) -> ReadItem
-    ensures { λ r. ⌜ r ≡ outputAt (now (s .entry)) g ⌝ }
+// type, which is read, name ":=" value ";"
+pub fn output(s: &[u8], typ: Got) -> ReadItem
+    ensures { λ r. ⌜ Behind Token.Name (now (s .entry)) typ (outputAt (now (s .entry))) r ⌝ }
 {
-    let typ = wants::name(s, g);
-    let name = wants::name(s, typ);
-    let becomes = signs::becomes(s, name);
+    let name = wants::next(s, typ, Token::Name);
+    let becomes = wants::next(s, name, Token::Becomes);
     let read = literals::read(s, becomes);
-    let last = signs::semicolon(s, literals::past(read));
+    let last = wants::next(s, literals::past(read), Token::Semicolon);
     let value = read.literal;
     let item = Item::Output {
         typ: name_of(typ),
@@ -56,13 +54,12 @@ pub fn output(s: &[u8], g: Got) -> ReadItem
     close(item, State::Task(3), last)
 }
 
-// "uses" name ";" "}"
-pub fn end(s: &[u8], g: Got) -> ReadItem
-    ensures { λ r. ⌜ r ≡ taskEndAt (now (s .entry)) g ⌝ }
+// "uses", which is read, name ";" "}"
+pub fn end(s: &[u8], uses: Got) -> ReadItem
+    ensures { λ r. ⌜ Behind Token.KeyUses (now (s .entry)) uses (taskEndAt (now (s .entry))) r ⌝ }
 {
-    let uses = keys::key_uses(s, g);
-    let name = wants::name(s, uses);
-    let semicolon = signs::semicolon(s, name);
-    let last = signs::right_brace(s, semicolon);
+    let name = wants::next(s, uses, Token::Name);
+    let semicolon = wants::next(s, name, Token::Semicolon);
+    let last = wants::next(s, semicolon, Token::RightBrace);
     close(Item::TaskEnd(name_of(name)), State::Module(5), last)
 }

@@ -1,4 +1,4 @@
 pub mod Blocks
 pub mod Runs
 pub mod Slices
-pub mod KeyRow
+pub mod KeyMarks

@@ -1,62 +1,16 @@
 // Keywords.
 ghost use mathlib.Core.Path.{_≡_};
+ghost use Prim.Native.Nat.{_≤_, _<_};
+ghost use lib.ListN.{length};
 ghost use lib.Seq.{slice};
-ghost use Rattle.model.specs.Bytes.{placeIn};
-ghost use Rattle.text.specs.Words.{keywords};
+ghost use Rattle.model.specs.Bytes.{placeIn, same as sameWord};
+ghost use Rattle.text.specs.Words.{keywords, keyword};
 ghost use Rattle.text.specs.Tokens.{keyToken, wordToken};
+ghost use Rattle.scan.specs.KeyMarks.{marked};
 use super::words;
 use text::Token;
 
-// The keywords, each in a row of 12 bytes; their lengths and their tokens.
-const KEYS: [u8; 264] = *b"\
-    actuator\0\0\0\0\
-    as\0\0\0\0\0\0\0\0\0\0\
-    asynchronous\
-    const\0\0\0\0\0\0\0\
-    false\0\0\0\0\0\0\0\
-    if\0\0\0\0\0\0\0\0\0\0\
-    import\0\0\0\0\0\0\
-    init\0\0\0\0\0\0\0\0\
-    input\0\0\0\0\0\0\0\
-    mode\0\0\0\0\0\0\0\0\
-    module\0\0\0\0\0\0\
-    output\0\0\0\0\0\0\
-    public\0\0\0\0\0\0\
-    sensor\0\0\0\0\0\0\
-    start\0\0\0\0\0\0\0\
-    state\0\0\0\0\0\0\0\
-    struct\0\0\0\0\0\0\
-    task\0\0\0\0\0\0\0\0\
-    then\0\0\0\0\0\0\0\0\
-    true\0\0\0\0\0\0\0\0\
-    type\0\0\0\0\0\0\0\0\
-    uses\0\0\0\0\0\0\0\0";
-
-const LENGTHS: [usize; 22] = [
-    8,
-    2,
-    12,
-    5,
-    5,
-    2,
-    6,
-    4,
-    5,
-    4,
-    6,
-    6,
-    6,
-    6,
-    5,
-    5,
-    6,
-    4,
-    4,
-    4,
-    4,
-    4,
-];
-
+// The keywords' tokens.
 const TOKENS: [Token; 22] = [
     Token::KeyActuator,
     Token::KeyAs,
@@ -82,23 +36,88 @@ const TOKENS: [Token; 22] = [
     Token::KeyUses,
 ];
 
-// The place of the bytes from start up to end among the keywords, 22 where they are none. The tables stand before the loop: they are laid out anew
-// wherever they are named.
+// The only keyword that a word can be, by its mark: its first letter, twice its last but one and five times its length. 22 where it can be none.
+fn candidate(mark: usize) -> usize
+    ensures { λ r. ⌜ r ≡ marked mark ⌝ }
+{
+    match mark {
+        359 => 0,
+        301 => 1,
+        391 => 2,
+        354 => 3,
+        357 => 4,
+        325 => 5,
+        363 => 6,
+        335 => 7,
+        364 => 8,
+        329 => 9,
+        355 => 10,
+        375 => 11,
+        352 => 12,
+        367 => 13,
+        368 => 14,
+        372 => 15,
+        343 => 16,
+        366 => 17,
+        338 => 18,
+        370 => 19,
+        360 => 20,
+        339 => 21,
+        _ => 22,
+    }
+}
+
+// Whether the bytes from start up to end are keyword k.
+fn spells(s: &[u8], start: usize, end: usize, k: usize) -> bool
+    ensures { λ r. ⌜ r ≡ sameWord (slice start end (now (s .entry))) (keyword k) ⌝ }
+{
+    match k {
+        0 => words::same(s, start, end, b"actuator"),
+        1 => words::same(s, start, end, b"as"),
+        2 => words::same(s, start, end, b"asynchronous"),
+        3 => words::same(s, start, end, b"const"),
+        4 => words::same(s, start, end, b"false"),
+        5 => words::same(s, start, end, b"if"),
+        6 => words::same(s, start, end, b"import"),
+        7 => words::same(s, start, end, b"init"),
+        8 => words::same(s, start, end, b"input"),
+        9 => words::same(s, start, end, b"mode"),
+        10 => words::same(s, start, end, b"module"),
+        11 => words::same(s, start, end, b"output"),
+        12 => words::same(s, start, end, b"public"),
+        13 => words::same(s, start, end, b"sensor"),
+        14 => words::same(s, start, end, b"start"),
+        15 => words::same(s, start, end, b"state"),
+        16 => words::same(s, start, end, b"struct"),
+        17 => words::same(s, start, end, b"task"),
+        18 => words::same(s, start, end, b"then"),
+        19 => words::same(s, start, end, b"true"),
+        20 => words::same(s, start, end, b"type"),
+        21 => words::same(s, start, end, b"uses"),
+        _ => words::same(s, start, end, b""),
+    }
+}
+
+// The place of the bytes from start up to end among the keywords, 22 where they are none.
 fn place(s: &[u8], start: usize, end: usize) -> usize
+    requires { ⌜ (start ≤ end) × (end ≤ length (now s)) ⌝ }
     ensures { λ r. ⌜ r ≡ placeIn keywords 0 (slice start end (now (s .entry))) ⌝ }
 {
-    let keys = KEYS;
-    let lengths = LENGTHS;
-    let mut k = 0;
-    while k < 22 {
-        let first = k * 12;
-        let last = first + lengths[k];
-        if words::same(s, start, end, &keys[first..last]) {
+    let n = end - start;
+    if n < 2 {
+        return 22;
+    }
+    if 12 < n {
+        return 22;
+    }
+    let near = words::wide(s[end - 2]);
+    let k = candidate(words::wide(s[start]) + near * 2 + n * 5);
+    if k < 22 {
+        if spells(s, start, end, k) {
             return k;
         }
-        k += 1;
     }
-    k
+    22
 }
 
 // The token of keyword k, a name behind the last.
@@ -113,6 +132,7 @@ fn key_token(k: usize) -> Token
 
 // The token of a word: a keyword, or else a name.
 pub fn word_token(s: &[u8], start: usize, end: usize) -> Token
+    requires { ⌜ (start ≤ end) × (end ≤ length (now s)) ⌝ }
     ensures { λ r. ⌜ r ≡ wordToken (slice start end (now (s .entry))) ⌝ }
 {
     let k = place(s, start, end);

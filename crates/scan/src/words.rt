@@ -18,13 +18,20 @@ fn between(b: u8, low: u8, high: u8) -> bool
 pub fn is_letter(b: u8) -> bool
     ensures { λ r. ⌜ r ≡ letter b ⌝ }
 {
-    if between(b, b'A', b'Z') {
-        return true;
-    }
     if between(b, b'a', b'z') {
         return true;
     }
+    if between(b, b'A', b'Z') {
+        return true;
+    }
     b == b'_'
+}
+
+// A byte as a number of machine size.
+pub fn wide(b: u8) -> usize
+    ensures { λ r. ⌜ (r ≡ b) × (r < 256) ⌝ }
+{
+    b as usize
 }
 
 pub fn is_digit(b: u8) -> bool

@@ -1,21 +1,18 @@
--- What is known of a token where a `let .. else` or a `match` did not take it, and what a reading is in each branch.
+-- What is known of a token where a `let .. else` or a `match` did not take it.
 use Prim.Native.Nat.{ℕ}
-use mathlib.Core.Path.{_≡_, refl, sym, ap, subst}
+use mathlib.Core.Path.{_≡_, refl, sym, subst}
 use mathlib.Core.List.{List, [], _∷_}
 use mathlib.Core.Bool.{Bool, true, false, not, cond}
 use mathlib.Core.Logic.{inl, inr}
 use lib.Dec.{eqb, T}
-use borrow.Author.Tests.{eq-eqb}
 use types.Run.{OneOf}
 use denote.Enum.Declared.{tagOf}
 use Rattle.text.proofs.Token.{the-type}
 use Rattle.text.specs.declared.Token.{Token}
 use Rattle.text.specs.declared.Token.the-variants as T
 use Rattle.text.specs.declared.Lexed.{Lexed}
-use Rattle.text.specs.declared.Got.{Got}
 use Rattle.text.specs.EachEntry.{both, both-left, both-right}
-use Rattle.text.specs.Tokens.{tokenAt, codeOf, is}
-use Rattle.text.specs.Expect.{allow, want}
+use Rattle.text.specs.Tokens.{codeOf, is}
 
 tag-code : (t : Token) → tagOf the-type t ≡ codeOf t
 tag-code T.Name = refl
@@ -94,16 +91,5 @@ Told ts n = T (all (λ k. not (eqb k n)) (others ts))
 pub other-code : (ts : List Token) (n : ℕ) → Told ts n → (t : Token) → OneOf (others ts) (tagOf the-type t) → eqb (codeOf t) n ≡ false
 other-code ts n h t o = untrue (eqb (codeOf t) n) (rest-of ts (λ k. not (eqb k n)) h t o)
 
--- ---- readings
-
-module _ (t : Token) (told : Told (t ∷ []) (codeOf t)) (l : Lexed) (other : OneOf (others (t ∷ [])) (tagOf the-type (l .token))) where
-  pub other-token : is t l ≡ false
-  other-token = other-code (t ∷ []) (codeOf t) told (l .token) other
-
-  pub refused : (s : List ℕ) (g : Got) → l ≡ tokenAt s (g .end) → want t s g ≡ allow false l g
-  unfolding want
-  refused s g p = simp (← p, other-token)
-
-pub taken : (t : Token) (s : List ℕ) (g : Got) (l : Lexed) → l ≡ tokenAt s (g .end) → l .token ≡ t → want t s g ≡ allow true l g
-unfolding want
-taken t s g l p e = simp (← p, eq-eqb (codeOf (l .token)) (codeOf t) (ap codeOf e))
+pub other-token : (t : Token) → Told (t ∷ []) (codeOf t) → (l : Lexed) → OneOf (others (t ∷ [])) (tagOf the-type (l .token)) → is t l ≡ false
+other-token t told l other = other-code (t ∷ []) (codeOf t) told (l .token) other

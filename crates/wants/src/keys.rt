@@ -1,80 +1,69 @@
-// Keywords.
+// Keywords that were found.
 ghost use mathlib.Core.Path.{_≡_};
 ghost use Rattle.text.specs.declared.Token.{Token};
-ghost use Rattle.text.specs.Expect.{want};
+ghost use Rattle.wants.specs.Given.{wantOf};
 use super::refuse;
 use super::took;
 use text::Got;
+use text::Lexed;
 use text::Token;
 
-pub fn key_if(s: &[u8], g: Got) -> Got
-    ensures { λ r. ⌜ r ≡ want Token.KeyIf (now (s .entry)) g ⌝ }
+pub(crate) fn key_if(g: Got, found: Lexed) -> Got
+    ensures { λ r. ⌜ r ≡ wantOf Token.KeyIf found g ⌝ }
 {
-    let at = g.end;
-    let next = scan::token(s, at);
-    let token = next.token;
+    let token = found.token;
     let Token::KeyIf = token else {
-        return refuse(g, next);
+        return refuse(g, found);
     };
-    took(g, next)
+    took(g, found)
 }
 
-pub fn key_mode(s: &[u8], g: Got) -> Got
-    ensures { λ r. ⌜ r ≡ want Token.KeyMode (now (s .entry)) g ⌝ }
+pub(crate) fn key_mode(g: Got, found: Lexed) -> Got
+    ensures { λ r. ⌜ r ≡ wantOf Token.KeyMode found g ⌝ }
 {
-    let at = g.end;
-    let next = scan::token(s, at);
-    let token = next.token;
+    let token = found.token;
     let Token::KeyMode = token else {
-        return refuse(g, next);
+        return refuse(g, found);
     };
-    took(g, next)
+    took(g, found)
 }
 
-pub fn key_module(s: &[u8], g: Got) -> Got
-    ensures { λ r. ⌜ r ≡ want Token.KeyModule (now (s .entry)) g ⌝ }
+pub(crate) fn key_module(g: Got, found: Lexed) -> Got
+    ensures { λ r. ⌜ r ≡ wantOf Token.KeyModule found g ⌝ }
 {
-    let at = g.end;
-    let next = scan::token(s, at);
-    let token = next.token;
+    let token = found.token;
     let Token::KeyModule = token else {
-        return refuse(g, next);
+        return refuse(g, found);
     };
-    took(g, next)
+    took(g, found)
 }
 
-pub fn key_task(s: &[u8], g: Got) -> Got
-    ensures { λ r. ⌜ r ≡ want Token.KeyTask (now (s .entry)) g ⌝ }
+pub(crate) fn key_task(g: Got, found: Lexed) -> Got
+    ensures { λ r. ⌜ r ≡ wantOf Token.KeyTask found g ⌝ }
 {
-    let at = g.end;
-    let next = scan::token(s, at);
-    let token = next.token;
+    let token = found.token;
     let Token::KeyTask = token else {
-        return refuse(g, next);
+        return refuse(g, found);
     };
-    took(g, next)
+    took(g, found)
 }
 
-pub fn key_then(s: &[u8], g: Got) -> Got
-    ensures { λ r. ⌜ r ≡ want Token.KeyThen (now (s .entry)) g ⌝ }
+pub(crate) fn key_then(g: Got, found: Lexed) -> Got
+    ensures { λ r. ⌜ r ≡ wantOf Token.KeyThen found g ⌝ }
 {
-    let at = g.end;
-    let next = scan::token(s, at);
-    let token = next.token;
+    let token = found.token;
     let Token::KeyThen = token else {
-        return refuse(g, next);
+        return refuse(g, found);
     };
-    took(g, next)
+    took(g, found)
 }
 
-pub fn key_uses(s: &[u8], g: Got) -> Got
-    ensures { λ r. ⌜ r ≡ want Token.KeyUses (now (s .entry)) g ⌝ }
+pub(crate) fn key_uses(g: Got, found: Lexed) -> Got
+    ensures { λ r. ⌜ r ≡ wantOf Token.KeyUses found g ⌝ }
 {
-    let at = g.end;
-    let next = scan::token(s, at);
-    let token = next.token;
+    let token = found.token;
     let Token::KeyUses = token else {
-        return refuse(g, next);
+        return refuse(g, found);
     };
-    took(g, next)
+    took(g, found)
 }

@@ -1,152 +1,151 @@
-// Signs.
+// Signs that were found.
 ghost use mathlib.Core.Path.{_≡_};
 ghost use Rattle.text.specs.declared.Token.{Token};
-ghost use Rattle.text.specs.Expect.{want};
+ghost use Rattle.wants.specs.Given.{wantOf};
+use super::other;
 use super::refuse;
 use super::took;
 use text::Got;
+use text::Lexed;
 use text::Token;
 
-pub fn left_brace(s: &[u8], g: Got) -> Got
-    ensures { λ r. ⌜ r ≡ want Token.LeftBrace (now (s .entry)) g ⌝ }
+pub(crate) fn left_brace(g: Got, found: Lexed) -> Got
+    ensures { λ r. ⌜ r ≡ wantOf Token.LeftBrace found g ⌝ }
 {
-    let at = g.end;
-    let next = scan::token(s, at);
-    let token = next.token;
+    let token = found.token;
     let Token::LeftBrace = token else {
-        return refuse(g, next);
+        return refuse(g, found);
     };
-    took(g, next)
+    took(g, found)
 }
 
-pub fn right_brace(s: &[u8], g: Got) -> Got
-    ensures { λ r. ⌜ r ≡ want Token.RightBrace (now (s .entry)) g ⌝ }
+pub(crate) fn right_brace(g: Got, found: Lexed) -> Got
+    ensures { λ r. ⌜ r ≡ wantOf Token.RightBrace found g ⌝ }
 {
-    let at = g.end;
-    let next = scan::token(s, at);
-    let token = next.token;
+    let token = found.token;
     let Token::RightBrace = token else {
-        return refuse(g, next);
+        return refuse(g, found);
     };
-    took(g, next)
+    took(g, found)
 }
 
-pub fn left_bracket(s: &[u8], g: Got) -> Got
-    ensures { λ r. ⌜ r ≡ want Token.LeftBracket (now (s .entry)) g ⌝ }
+pub(crate) fn left_bracket(g: Got, found: Lexed) -> Got
+    ensures { λ r. ⌜ r ≡ wantOf Token.LeftBracket found g ⌝ }
 {
-    let at = g.end;
-    let next = scan::token(s, at);
-    let token = next.token;
+    let token = found.token;
     let Token::LeftBracket = token else {
-        return refuse(g, next);
+        return refuse(g, found);
     };
-    took(g, next)
+    took(g, found)
 }
 
-pub fn right_bracket(s: &[u8], g: Got) -> Got
-    ensures { λ r. ⌜ r ≡ want Token.RightBracket (now (s .entry)) g ⌝ }
+pub(crate) fn right_bracket(g: Got, found: Lexed) -> Got
+    ensures { λ r. ⌜ r ≡ wantOf Token.RightBracket found g ⌝ }
 {
-    let at = g.end;
-    let next = scan::token(s, at);
-    let token = next.token;
+    let token = found.token;
     let Token::RightBracket = token else {
-        return refuse(g, next);
+        return refuse(g, found);
     };
-    took(g, next)
+    took(g, found)
 }
 
-pub fn left_paren(s: &[u8], g: Got) -> Got
-    ensures { λ r. ⌜ r ≡ want Token.LeftParen (now (s .entry)) g ⌝ }
+pub(crate) fn left_paren(g: Got, found: Lexed) -> Got
+    ensures { λ r. ⌜ r ≡ wantOf Token.LeftParen found g ⌝ }
 {
-    let at = g.end;
-    let next = scan::token(s, at);
-    let token = next.token;
+    let token = found.token;
     let Token::LeftParen = token else {
-        return refuse(g, next);
+        return refuse(g, found);
     };
-    took(g, next)
+    took(g, found)
 }
 
-pub fn right_paren(s: &[u8], g: Got) -> Got
-    ensures { λ r. ⌜ r ≡ want Token.RightParen (now (s .entry)) g ⌝ }
+pub(crate) fn right_paren(g: Got, found: Lexed) -> Got
+    ensures { λ r. ⌜ r ≡ wantOf Token.RightParen found g ⌝ }
 {
-    let at = g.end;
-    let next = scan::token(s, at);
-    let token = next.token;
+    let token = found.token;
     let Token::RightParen = token else {
-        return refuse(g, next);
+        return refuse(g, found);
     };
-    took(g, next)
+    took(g, found)
 }
 
-pub fn semicolon(s: &[u8], g: Got) -> Got
-    ensures { λ r. ⌜ r ≡ want Token.Semicolon (now (s .entry)) g ⌝ }
+pub(crate) fn semicolon(g: Got, found: Lexed) -> Got
+    ensures { λ r. ⌜ r ≡ wantOf Token.Semicolon found g ⌝ }
 {
-    let at = g.end;
-    let next = scan::token(s, at);
-    let token = next.token;
+    let token = found.token;
     let Token::Semicolon = token else {
-        return refuse(g, next);
+        return refuse(g, found);
     };
-    took(g, next)
+    took(g, found)
 }
 
-pub fn equals(s: &[u8], g: Got) -> Got
-    ensures { λ r. ⌜ r ≡ want Token.Equals (now (s .entry)) g ⌝ }
+pub(crate) fn equals(g: Got, found: Lexed) -> Got
+    ensures { λ r. ⌜ r ≡ wantOf Token.Equals found g ⌝ }
 {
-    let at = g.end;
-    let next = scan::token(s, at);
-    let token = next.token;
+    let token = found.token;
     let Token::Equals = token else {
-        return refuse(g, next);
+        return refuse(g, found);
     };
-    took(g, next)
+    took(g, found)
 }
 
-pub fn dot(s: &[u8], g: Got) -> Got
-    ensures { λ r. ⌜ r ≡ want Token.Dot (now (s .entry)) g ⌝ }
+pub(crate) fn dot(g: Got, found: Lexed) -> Got
+    ensures { λ r. ⌜ r ≡ wantOf Token.Dot found g ⌝ }
 {
-    let at = g.end;
-    let next = scan::token(s, at);
-    let token = next.token;
+    let token = found.token;
     let Token::Dot = token else {
-        return refuse(g, next);
+        return refuse(g, found);
     };
-    took(g, next)
+    took(g, found)
 }
 
-pub fn becomes(s: &[u8], g: Got) -> Got
-    ensures { λ r. ⌜ r ≡ want Token.Becomes (now (s .entry)) g ⌝ }
+pub(crate) fn becomes(g: Got, found: Lexed) -> Got
+    ensures { λ r. ⌜ r ≡ wantOf Token.Becomes found g ⌝ }
 {
-    let at = g.end;
-    let next = scan::token(s, at);
-    let token = next.token;
+    let token = found.token;
     let Token::Becomes = token else {
-        return refuse(g, next);
+        return refuse(g, found);
     };
-    took(g, next)
+    took(g, found)
 }
 
-pub fn comma(s: &[u8], g: Got) -> Got
-    ensures { λ r. ⌜ r ≡ want Token.Comma (now (s .entry)) g ⌝ }
+pub(crate) fn comma(g: Got, found: Lexed) -> Got
+    ensures { λ r. ⌜ r ≡ wantOf Token.Comma found g ⌝ }
 {
-    let at = g.end;
-    let next = scan::token(s, at);
-    let token = next.token;
+    let token = found.token;
     let Token::Comma = token else {
-        return refuse(g, next);
+        return refuse(g, found);
     };
-    took(g, next)
+    took(g, found)
 }
 
-pub fn minus(s: &[u8], g: Got) -> Got
-    ensures { λ r. ⌜ r ≡ want Token.Minus (now (s .entry)) g ⌝ }
+pub(crate) fn minus(g: Got, found: Lexed) -> Got
+    ensures { λ r. ⌜ r ≡ wantOf Token.Minus found g ⌝ }
 {
-    let at = g.end;
-    let next = scan::token(s, at);
-    let token = next.token;
+    let token = found.token;
     let Token::Minus = token else {
-        return refuse(g, next);
+        return refuse(g, found);
     };
-    took(g, next)
+    took(g, found)
+}
+
+// The token found, which must be t: a sign, or a token that no production expects.
+pub(crate) fn given(g: Got, found: Lexed, t: Token) -> Got
+    ensures { λ r. ⌜ r ≡ wantOf t found g ⌝ }
+{
+    match t {
+        Token::LeftBrace => left_brace(g, found),
+        Token::RightBrace => right_brace(g, found),
+        Token::LeftBracket => left_bracket(g, found),
+        Token::RightBracket => right_bracket(g, found),
+        Token::LeftParen => left_paren(g, found),
+        Token::RightParen => right_paren(g, found),
+        Token::Semicolon => semicolon(g, found),
+        Token::Equals => equals(g, found),
+        Token::Dot => dot(g, found),
+        Token::Becomes => becomes(g, found),
+        Token::Comma => comma(g, found),
+        Token::Minus => minus(g, found),
+        _ => other(g, found, t),
+    }
 }

@@ -37,8 +37,8 @@ act-requires c κs = search needs
 enum-known-state-5 : tie.Need-enum-known-state-5
 enum-known-state-5 c = search needs
 
-target-requires : tie.Need-target-requires
-target-requires c κs = search needs
+guarded-requires : tie.Need-guarded-requires
+guarded-requires c κs = search needs
 
 enum-known-state-6 : tie.Need-enum-known-state-6
 enum-known-state-6 c = search needs
@@ -90,7 +90,7 @@ returns-6 : tie.Need-returns-6
 unfolding itemAt
 returns-6 c =
     let state5 = c .before .before .state5 in
-    c .target .ensures ∙ sym (rw (state5 .given .1))
+    c .guarded .ensures ∙ sym (rw (state5 .given .1))
 
 returns-7 : tie.Need-returns-7
 unfolding itemAt
@@ -121,7 +121,7 @@ item-spec =
     enum-known-state-4
     act-requires
     enum-known-state-5
-    target-requires
+    guarded-requires
     enum-known-state-6
     guard-arg-requires
     enum-told-2

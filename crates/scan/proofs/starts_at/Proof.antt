@@ -1,5 +1,9 @@
 use mathlib.Core.Path.{sym, _∙_}
 use borrow.Author.Needs.{needs}
+use Prim.Native.Nat.{_+_}
+use native.Mathlib.Omega.{arith}
+use Rattle.text.specs.Words.{wordByte}
+use Rattle.text.specs.TokensLaws.{munch-at-within}
 use Rattle.text.specs.StartsLaws as law
 use Rattle.scan.proofs.starts_at.Statement.{statement}
 use Rattle.scan.proofs.starts_at.Tie as tie
@@ -25,7 +29,11 @@ run-end-requires : tie.Need-run-end-requires
 run-end-requires c κs = search needs
 
 word-token-requires : tie.Need-word-token-requires
-word-token-requires c κs = search needs
+word-token-requires c κs =
+    let args = c .before .before .before .before .before .before .args in
+    let within = munch-at-within wordByte (args .s .now) (args .at + 1) (search needs) in
+    let end = c .run-end .ensures in
+    (omega arith, omega arith)
 
 found-requires-2 : tie.Need-found-requires-2
 found-requires-2 c κs = search needs

@@ -1,12 +1,10 @@
-use mathlib.Core.Path.{sym, _∙_}
+use mathlib.Core.Path.{_∙_}
 use borrow.Author.Needs.{needs}
 use Rattle.text.specs.declared.Token.the-variants as T
-use Rattle.wants.proofs.Others.{refused, taken}
+use Rattle.wants.specs.Given.{taken, refused}
+use Rattle.wants.proofs.Others.{other-token}
 use Rattle.wants.proofs.end.Statement.{statement}
 use Rattle.wants.proofs.end.Tie as tie
-
-token-requires : tie.Need-token-requires
-token-requires c κs = search needs
 
 enum-told : tie.Need-enum-told
 enum-told c = search needs
@@ -16,17 +14,14 @@ refuse-requires c κs = search needs
 
 returns : tie.Need-returns
 returns c =
-    let token = c .before .before .token in
-    c .refuse .ensures ∙ sym (refused T.End tt _ (c .before .match .keys2) _ _ (token .ensures))
+    let args = c .before .before .args in
+    c .refuse .ensures ∙ refused T.End _ _ (other-token T.End tt (args .found) (c .before .match .keys2))
 
 took-requires : tie.Need-took-requires
 took-requires c κs = search needs
 
 returns-2 : tie.Need-returns-2
-returns-2 c =
-    let token = c .before .before .before .token in
-    c .took .ensures ∙ sym (taken T.End _ _ _ (token .ensures) (c .before .enum-told .given .1))
+returns-2 c = c .took .ensures ∙ taken T.End _ _ (c .before .enum-told .given .1)
 
 pub end-spec : {M : Type 1} → statement M
-end-spec =
-    tie.close (tie.spec token-requires enum-told refuse-requires returns took-requires returns-2)
+end-spec = tie.close (tie.spec enum-told refuse-requires returns took-requires returns-2)

@@ -18,7 +18,7 @@ of-mode-requires : tie.Need-of-mode-requires
 of-mode-requires c κs = search needs
 
 section-requires : tie.Need-section-requires
-section-requires c κs = search needs
+section-requires c κs = c .before .before .token .ensures
 
 returns : tie.Need-returns
 unfolding modeBodyAt
@@ -28,7 +28,7 @@ returns c =
     simp (← token .ensures, ← c .before .of-mode .ensures, ← c .section .ensures, other-token T.LeftBracket tt (token .result) (match .keys2))
 
 head-requires : tie.Need-head-requires
-head-requires c κs = search needs
+head-requires c κs = c .before .before .token .ensures
 
 returns-2 : tie.Need-returns-2
 unfolding modeBodyAt

@@ -18,7 +18,7 @@ of-module-requires : tie.Need-of-module-requires
 of-module-requires c κs = search needs
 
 section-requires : tie.Need-section-requires
-section-requires c κs = search needs
+section-requires c κs = c .before .before .token .ensures
 
 returns : tie.Need-returns
 unfolding moduleBodyAt
@@ -28,7 +28,7 @@ returns c =
     simp (← token .ensures, ← c .before .of-module .ensures, ← c .section .ensures, other-token T.Name tt (token .result) (match .keys2))
 
 declaration-requires : tie.Need-declaration-requires
-declaration-requires c κs = search needs
+declaration-requires c κs = c .before .before .token .ensures
 
 returns-2 : tie.Need-returns-2
 unfolding moduleBodyAt

@@ -1,6 +1,8 @@
+use mathlib.Core.Path.{_∙_}
 use borrow.Author.Tests.{eq-eqb, ne-eqb, lt-ltb, le-ltb}
+use Rattle.text.specs.Items.{sectionAt, refusedAt}
+use Rattle.wants.specs.Given.{want-of, any-of}
 use borrow.Author.Needs.{needs}
-use Rattle.text.specs.Items.{sectionAt}
 use Rattle.items.proofs.modules.section.Statement.{statement}
 use Rattle.items.proofs.modules.section.Tie as tie
 
@@ -8,57 +10,72 @@ refused-requires : tie.Need-refused-requires
 refused-requires c κs = search needs
 
 returns : tie.Need-returns
-unfolding sectionAt
-returns c = simp (← c .refused .ensures, lt-ltb _ _ (c .before .if1 .taken))
+unfolding sectionAt refusedAt
+returns c =
+    let pre = c .before .before .before .pre in
+    let if1 = c .before .if1 in
+    simp (← pre, ← c .refused .ensures, lt-ltb _ _ (if1 .taken))
+
+given-requires : tie.Need-given-requires
+given-requires c κs = search needs
 
 begin-requires : tie.Need-begin-requires
 begin-requires c κs = search needs
 
 returns-2 : tie.Need-returns-2
-unfolding sectionAt
+unfolding sectionAt refusedAt
 returns-2 c =
-    let if1 = c .before .before .if1 in
-    simp (← c .begin .ensures, le-ltb _ _ (if1 .left), eq-eqb _ _ (c .before .if2 .taken))
+    let pre = c .before .before .before .before .before .pre in
+    let if1 = c .before .before .before .if1 in
+    let if2 = c .before .before .if2 in
+    let given = c .before .given in
+    simp (← c .begin .ensures _ (given .ensures ∙ want-of _ _ _ pre _), le-ltb _ _ (if1 .left), eq-eqb _ _ (if2 .taken))
 
 begin-requires-2 : tie.Need-begin-requires-2
 begin-requires-2 c κs = search needs
 
 returns-3 : tie.Need-returns-3
-unfolding sectionAt
+unfolding sectionAt refusedAt
 returns-3 c =
+    let pre = c .before .before .before .before .before .pre in
     let if1 = c .before .before .before .if1 in
     let if2 = c .before .before .if2 in
-    simp (← c .begin2 .ensures, le-ltb _ _ (if1 .left), ne-eqb _ _ (if2 .left), eq-eqb _ _ (c .before .if3 .taken))
+    let if3 = c .before .if3 in
+    simp (← c .begin2 .ensures pre, le-ltb _ _ (if1 .left), ne-eqb _ _ (if2 .left), eq-eqb _ _ (if3 .taken))
 
-right-brace-requires : tie.Need-right-brace-requires
-right-brace-requires c κs = search needs
+given-requires-2 : tie.Need-given-requires-2
+given-requires-2 c κs = search needs
 
 close-requires : tie.Need-close-requires
 close-requires c κs = search needs
 
 returns-4 : tie.Need-returns-4
-unfolding sectionAt
+unfolding sectionAt refusedAt
 returns-4 c =
+    let pre = c .before .before .before .before .before .before .before .pre in
     let if1 = c .before .before .before .before .before .if1 in
     let if2 = c .before .before .before .before .if2 in
     let if3 = c .before .before .before .if3 in
     let if4 = c .before .before .if4 in
-    simp (← c .before .right-brace .ensures, ← c .close .ensures, le-ltb _ _ (if1 .left), ne-eqb _ _ (if2 .left), ne-eqb _ _ (if3 .left), eq-eqb _ _ (if4 .taken))
+    let given2 = c .before .given2 in
+    simp (← given2 .ensures ∙ want-of _ _ _ pre _, ← c .close .ensures, le-ltb _ _ (if1 .left), ne-eqb _ _ (if2 .left), ne-eqb _ _ (if3 .left), eq-eqb _ _ (if4 .taken))
 
-any-requires : tie.Need-any-requires
-any-requires c κs = search needs
+given-any-requires : tie.Need-given-any-requires
+given-any-requires c κs = search needs
 
 close-requires-2 : tie.Need-close-requires-2
 close-requires-2 c κs = search needs
 
 returns-5 : tie.Need-returns-5
-unfolding sectionAt
+unfolding sectionAt refusedAt
 returns-5 c =
+    let pre = c .before .before .before .before .before .before .before .pre in
     let if1 = c .before .before .before .before .before .if1 in
     let if2 = c .before .before .before .before .if2 in
     let if3 = c .before .before .before .if3 in
     let if4 = c .before .before .if4 in
-    simp (← c .before .any .ensures, ← c .close2 .ensures, le-ltb _ _ (if1 .left), ne-eqb _ _ (if2 .left), ne-eqb _ _ (if3 .left), ne-eqb _ _ (if4 .left))
+    let given-any = c .before .given-any in
+    simp (← given-any .ensures ∙ any-of _ _ _ pre, ← c .close2 .ensures, le-ltb _ _ (if1 .left), ne-eqb _ _ (if2 .left), ne-eqb _ _ (if3 .left), ne-eqb _ _ (if4 .left))
 
 pub section-spec : {M : Type 1} → statement M
 section-spec =
@@ -66,13 +83,14 @@ section-spec =
     (tie.spec
     refused-requires
     returns
+    given-requires
     begin-requires
     returns-2
     begin-requires-2
     returns-3
-    right-brace-requires
+    given-requires-2
     close-requires
     returns-4
-    any-requires
+    given-any-requires
     close-requires-2
     returns-5)

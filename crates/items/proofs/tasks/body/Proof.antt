@@ -18,7 +18,7 @@ of-task-requires : tie.Need-of-task-requires
 of-task-requires c κs = search needs
 
 section-requires : tie.Need-section-requires
-section-requires c κs = search needs
+section-requires c κs = c .before .before .token .ensures
 
 returns : tie.Need-returns
 unfolding taskBodyAt
@@ -28,7 +28,7 @@ returns c =
     simp (← token .ensures, ← c .before .of-task .ensures, ← c .section .ensures, other-token T.Name tt (token .result) (match .keys2))
 
 port-requires : tie.Need-port-requires
-port-requires c κs = search needs
+port-requires c κs = c .before .before .token .ensures
 
 returns-2 : tie.Need-returns-2
 unfolding taskBodyAt

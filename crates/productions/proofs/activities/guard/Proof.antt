@@ -1,26 +1,27 @@
 use mathlib.Core.Path.{sym, _∙_}
-use borrow.Author.Needs.{needs}
+use Rattle.wants.specs.Given.{want-of}
 use Rattle.text.specs.Productions.{guardAt}
+use borrow.Author.Needs.{needs}
 use Rattle.productions.proofs.activities.guard.Statement.{statement}
 use Rattle.productions.proofs.activities.guard.Tie as tie
 
-key-if-requires : tie.Need-key-if-requires
-key-if-requires c κs = search needs
+next-requires : tie.Need-next-requires
+next-requires c κs = search needs
 
-name-requires : tie.Need-name-requires
-name-requires c κs = search needs
+next-requires-2 : tie.Need-next-requires-2
+next-requires-2 c κs = search needs
 
-left-paren-requires : tie.Need-left-paren-requires
-left-paren-requires c κs = search needs
+token-requires : tie.Need-token-requires
+token-requires c κs = search needs
 
 stands-requires : tie.Need-stands-requires
 stands-requires c κs = search needs
 
-right-paren-requires : tie.Need-right-paren-requires
-right-paren-requires c κs = search needs
+given-requires : tie.Need-given-requires
+given-requires c κs = search needs
 
-key-then-requires : tie.Need-key-then-requires
-key-then-requires c κs = search needs
+next-requires-3 : tie.Need-next-requires-3
+next-requires-3 c κs = search needs
 
 name-of-requires : tie.Need-name-of-requires
 name-of-requires c κs = search needs
@@ -31,17 +32,18 @@ close-requires c κs = search needs
 returns : tie.Need-returns
 unfolding guardAt
 returns c =
-    let key-if = c .before .before .before .before .before .before .before .before .key-if in
-    let name = c .before .before .before .before .before .before .before .name in
-    let left-paren = c .before .before .before .before .before .before .left-paren in
+    let next = c .before .before .before .before .before .before .before .before .next in
+    let next2 = c .before .before .before .before .before .before .before .next2 in
+    let token = c .before .before .before .before .before .before .token in
     let stands = c .before .before .before .before .before .stands in
     let if1 = c .before .before .before .before .if1 in
-    let right-paren = c .before .before .before .right-paren in
-    let key-then = c .before .before .key-then in
-    simp (← key-if .ensures, ← name .ensures, ← left-paren .ensures, ← right-paren .ensures, ← key-then .ensures, ← c .before .name-of .ensures, ← c .close .ensures, sym (stands .ensures) ∙ if1 .taken)
+    let given = c .before .before .before .given in
+    let next3 = c .before .before .next3 in
+    let name-of = c .before .name-of in
+    λ g p. simp (← p, ← next .ensures, ← next2 .ensures, ← token .ensures, ← given .ensures ∙ want-of _ _ _ (token .ensures) _, ← next3 .ensures, ← name-of .ensures, ← c .close .ensures, sym (stands .ensures) ∙ if1 .taken)
 
 count-requires : tie.Need-count-requires
-count-requires c κs = search needs
+count-requires c κs = c .before .before .token .ensures
 
 name-of-requires-2 : tie.Need-name-of-requires-2
 name-of-requires-2 c κs = search needs
@@ -52,24 +54,25 @@ close-requires-2 c κs = search needs
 returns-2 : tie.Need-returns-2
 unfolding guardAt
 returns-2 c =
-    let key-if = c .before .before .before .before .before .before .before .key-if in
-    let name = c .before .before .before .before .before .before .name in
-    let left-paren = c .before .before .before .before .before .left-paren in
+    let next = c .before .before .before .before .before .before .before .next in
+    let next2 = c .before .before .before .before .before .before .next2 in
+    let token = c .before .before .before .before .before .token in
     let stands = c .before .before .before .before .stands in
     let if1 = c .before .before .before .if1 in
     let count = c .before .before .count in
-    simp (← key-if .ensures, ← name .ensures, ← left-paren .ensures, ← count .ensures, ← c .before .name-of2 .ensures, ← c .close2 .ensures, sym (stands .ensures) ∙ if1 .left)
+    let name-of2 = c .before .name-of2 in
+    λ g p. simp (← p, ← next .ensures, ← next2 .ensures, ← token .ensures, ← count .ensures, ← name-of2 .ensures, ← c .close2 .ensures, sym (stands .ensures) ∙ if1 .left)
 
 pub guard-spec : {M : Type 1} → statement M
 guard-spec =
     tie.close
     (tie.spec
-    key-if-requires
-    name-requires
-    left-paren-requires
+    next-requires
+    next-requires-2
+    token-requires
     stands-requires
-    right-paren-requires
-    key-then-requires
+    given-requires
+    next-requires-3
     name-of-requires
     close-requires
     returns

@@ -1,13 +1,10 @@
-use borrow.Author.Needs.{needs}
 use Rattle.text.specs.Productions.{switchAt}
+use borrow.Author.Needs.{needs}
 use Rattle.productions.proofs.activities.switch.Statement.{statement}
 use Rattle.productions.proofs.activities.switch.Tie as tie
 
-name-requires : tie.Need-name-requires
-name-requires c κs = search needs
-
-semicolon-requires : tie.Need-semicolon-requires
-semicolon-requires c κs = search needs
+next-requires : tie.Need-next-requires
+next-requires c κs = search needs
 
 name-of-requires : tie.Need-name-of-requires
 name-of-requires c κs = search needs
@@ -18,10 +15,9 @@ close-requires c κs = search needs
 returns : tie.Need-returns
 unfolding switchAt
 returns c =
-    let name = c .before .before .before .name in
-    let semicolon = c .before .before .semicolon in
-    simp (← name .ensures, ← semicolon .ensures, ← c .before .name-of .ensures, ← c .close .ensures)
+    let next = c .before .before .next in
+    let name-of = c .before .name-of in
+    λ g p. simp (← p, ← next .ensures, ← name-of .ensures, ← c .close .ensures)
 
 pub switch-spec : {M : Type 1} → statement M
-switch-spec =
-    tie.close (tie.spec name-requires semicolon-requires name-of-requires close-requires returns)
+switch-spec = tie.close (tie.spec next-requires name-of-requires close-requires returns)

@@ -1,13 +1,10 @@
-use borrow.Author.Needs.{needs}
 use Rattle.text.specs.Productions.{constantAt}
+use borrow.Author.Needs.{needs}
 use Rattle.productions.proofs.declarations.constant.Statement.{statement}
 use Rattle.productions.proofs.declarations.constant.Tie as tie
 
-name-requires : tie.Need-name-requires
-name-requires c κs = search needs
-
-equals-requires : tie.Need-equals-requires
-equals-requires c κs = search needs
+next-requires : tie.Need-next-requires
+next-requires c κs = search needs
 
 read-requires : tie.Need-read-requires
 read-requires c κs = search needs
@@ -15,8 +12,8 @@ read-requires c κs = search needs
 past-requires : tie.Need-past-requires
 past-requires c κs = search needs
 
-semicolon-requires : tie.Need-semicolon-requires
-semicolon-requires c κs = search needs
+next-requires-2 : tie.Need-next-requires-2
+next-requires-2 c κs = search needs
 
 name-of-requires : tie.Need-name-of-requires
 name-of-requires c κs = search needs
@@ -27,22 +24,21 @@ close-requires c κs = search needs
 returns : tie.Need-returns
 unfolding constantAt
 returns c =
-    let name = c .before .before .before .before .before .before .name in
-    let equals = c .before .before .before .before .before .equals in
+    let next = c .before .before .before .before .before .next in
     let read = c .before .before .before .before .read in
     let past = c .before .before .before .past in
-    let semicolon = c .before .before .semicolon in
-    simp (← name .ensures, ← equals .ensures, ← read .ensures, ← past .ensures, ← semicolon .ensures, ← c .before .name-of .ensures, ← c .close .ensures)
+    let next2 = c .before .before .next2 in
+    let name-of = c .before .name-of in
+    λ g p. simp (← p, ← next .ensures, ← read .ensures, ← past .ensures, ← next2 .ensures, ← name-of .ensures, ← c .close .ensures)
 
 pub constant-spec : {M : Type 1} → statement M
 constant-spec =
     tie.close
     (tie.spec
-    name-requires
-    equals-requires
+    next-requires
     read-requires
     past-requires
-    semicolon-requires
+    next-requires-2
     name-of-requires
     close-requires
     returns)

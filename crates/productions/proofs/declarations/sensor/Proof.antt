@@ -1,22 +1,19 @@
-use borrow.Author.Needs.{needs}
 use Rattle.text.specs.Productions.{sensorAt}
+use borrow.Author.Needs.{needs}
 use Rattle.productions.proofs.declarations.sensor.Statement.{statement}
 use Rattle.productions.proofs.declarations.sensor.Tie as tie
 
-name-requires : tie.Need-name-requires
-name-requires c κs = search needs
+next-requires : tie.Need-next-requires
+next-requires c κs = search needs
 
-name-requires-2 : tie.Need-name-requires-2
-name-requires-2 c κs = search needs
+next-requires-2 : tie.Need-next-requires-2
+next-requires-2 c κs = search needs
 
-key-uses-requires : tie.Need-key-uses-requires
-key-uses-requires c κs = search needs
+next-requires-3 : tie.Need-next-requires-3
+next-requires-3 c κs = search needs
 
-name-requires-3 : tie.Need-name-requires-3
-name-requires-3 c κs = search needs
-
-semicolon-requires : tie.Need-semicolon-requires
-semicolon-requires c κs = search needs
+next-requires-4 : tie.Need-next-requires-4
+next-requires-4 c κs = search needs
 
 name-of-requires : tie.Need-name-of-requires
 name-of-requires c κs = search needs
@@ -33,24 +30,23 @@ close-requires c κs = search needs
 returns : tie.Need-returns
 unfolding sensorAt
 returns c =
-    let name = c .before .before .before .before .before .before .before .before .name in
-    let name2 = c .before .before .before .before .before .before .before .name2 in
-    let key-uses = c .before .before .before .before .before .before .key-uses in
-    let name3 = c .before .before .before .before .before .name3 in
-    let semicolon = c .before .before .before .before .semicolon in
+    let next = c .before .before .before .before .before .before .before .next in
+    let next2 = c .before .before .before .before .before .before .next2 in
+    let next3 = c .before .before .before .before .before .next3 in
+    let next4 = c .before .before .before .before .next4 in
     let name-of = c .before .before .before .name-of in
     let name-of2 = c .before .before .name-of2 in
-    simp (← name .ensures, ← name2 .ensures, ← key-uses .ensures, ← name3 .ensures, ← semicolon .ensures, ← name-of .ensures, ← name-of2 .ensures, ← c .before .name-of3 .ensures, ← c .close .ensures)
+    let name-of3 = c .before .name-of3 in
+    λ g p. simp (← p, ← next .ensures, ← next2 .ensures, ← next3 .ensures, ← next4 .ensures, ← name-of .ensures, ← name-of2 .ensures, ← name-of3 .ensures, ← c .close .ensures)
 
 pub sensor-spec : {M : Type 1} → statement M
 sensor-spec =
     tie.close
     (tie.spec
-    name-requires
-    name-requires-2
-    key-uses-requires
-    name-requires-3
-    semicolon-requires
+    next-requires
+    next-requires-2
+    next-requires-3
+    next-requires-4
     name-of-requires
     name-of-requires-2
     name-of-requires-3

@@ -1,117 +1,28 @@
-use Prim.Native.Nat.{_+_, _-_, _≤_}
-use mathlib.Core.List.{[], _∷_}
-use mathlib.Core.Path.{_≡_, refl, sym, ap, _∙_}
-use native.Mathlib.Omega.{arith}
-use lib.ListN.{length}
-use borrow.Author.Tests.{eqb-false}
+use mathlib.Core.Path.{sym, _∙_}
 use borrow.Author.Needs.{needs}
-use Rattle.text.specs.declared.Token.the-variants as T
-use Rattle.text.specs.Tokens.{codeOf}
-use Rattle.text.specs.Productions.{commasFrom, countAt}
-use Rattle.text.specs.CountLaws as law
-use Rattle.wants.proofs.Others.{other-code}
+use Rattle.productions.specs.Counted.{past-name}
 use Rattle.productions.proofs.lists.count.Statement.{statement}
 use Rattle.productions.proofs.lists.count.Tie as tie
 
-abbrev Inv-loop : tie.InvT-loop
-Inv-loop s at i₀ n₀ i n = (n ≤ i + 1) × (countAt s at ≡ n + commasFrom s i)
+stands-requires : tie.Need-stands-requires
+stands-requires c κs = search needs
 
-abbrev μ-loop : tie.MeasureT-loop
-μ-loop s at i₀ n₀ i n = length s - i
+counted-requires : tie.Need-counted-requires
+counted-requires c κs = search needs
 
-loop-holds : tie.Need-loop-holds Inv-loop μ-loop
-unfolding countAt
-loop-holds c = (omega arith, refl)
-
-token-requires : tie.Need-token-requires Inv-loop μ-loop
-token-requires c κs = search needs
-
-enum-told : tie.Need-enum-told Inv-loop μ-loop
-enum-told c = search needs
-
-add-n : tie.Need-add-n Inv-loop μ-loop
-add-n c = search needs
-
-enum-told-2 : tie.Need-enum-told-2 Inv-loop μ-loop
-enum-told-2 c = search needs
-
-enum-told-3 : tie.Need-enum-told-3 Inv-loop μ-loop
-enum-told-3 c = search needs
-
-returns : tie.Need-returns Inv-loop μ-loop
+returns : tie.Need-returns
 returns c =
-    let loop = c .before .before .before .loop in
-    let loop-test = c .before .before .loop-test in
-    let rest = T.Comma ∷ T.Name ∷ T.Dot ∷ [] in
-    sym (loop .inv .1 ∙ law.count-out _ _ _ _ (loop-test .taken) (c .before .token .ensures) refl _ (eqb-false _ _ (other-code rest 12 tt (c .before .token .result .token) (c .match .keys4))) (eqb-false _ _ (other-code rest 0 tt (c .before .token .result .token) (c .match .keys4))) (eqb-false _ _ (other-code rest 10 tt (c .before .token .result .token) (c .match .keys4))))
+    let pre = c .before .before .before .before .pre in
+    let stands = c .before .before .stands in
+    c .counted .ensures ∙ sym (past-name _ _ _ pre (sym (stands .ensures) ∙ c .before .if1 .taken))
 
-loop-less : tie.Need-loop-less Inv-loop μ-loop
-loop-less c =
-    let loop-test = c .before .before .before .loop-test in
-    let token = c .before .before .token in
-    let ahead = law.count-ahead _ _ _ _ (loop-test .taken) (token .ensures) refl (omega (arith, ap codeOf (c .enum-told .given .1))) in
-    omega (arith, ahead)
+counted-requires-2 : tie.Need-counted-requires-2
+counted-requires-2 c κs = search needs
 
-loop-again : tie.Need-loop-again Inv-loop μ-loop
-loop-again c =
-    let loop = c .before .before .before .before .loop in
-    let loop-test = c .before .before .before .loop-test in
-    let token = c .before .before .token in
-    let ahead = law.count-ahead _ _ _ _ (loop-test .taken) (token .ensures) refl (omega (arith, ap codeOf (c .enum-told .given .1))) in
-    (omega (arith, ahead), loop .inv .1 ∙ law.count-comma _ _ _ _ (loop-test .taken) (token .ensures) refl _ (ap codeOf (c .enum-told .given .1)))
-
-loop-less-2 : tie.Need-loop-less-2 Inv-loop μ-loop
-loop-less-2 c =
-    let loop-test = c .before .before .before .loop-test in
-    let token = c .before .before .token in
-    let ahead = law.count-ahead _ _ _ _ (loop-test .taken) (token .ensures) refl (omega (arith, ap codeOf (c .enum-told2 .given .1))) in
-    omega (arith, ahead)
-
-loop-again-2 : tie.Need-loop-again-2 Inv-loop μ-loop
-loop-again-2 c =
-    let loop = c .before .before .before .before .loop in
-    let loop-test = c .before .before .before .loop-test in
-    let token = c .before .before .token in
-    let ahead = law.count-ahead _ _ _ _ (loop-test .taken) (token .ensures) refl (omega (arith, ap codeOf (c .enum-told2 .given .1))) in
-    (omega (arith, ahead), loop .inv .1 ∙ law.count-name _ _ _ _ (loop-test .taken) (token .ensures) refl _ (ap codeOf (c .enum-told2 .given .1)))
-
-loop-less-3 : tie.Need-loop-less-3 Inv-loop μ-loop
-loop-less-3 c =
-    let loop-test = c .before .before .before .loop-test in
-    let token = c .before .before .token in
-    let ahead = law.count-ahead _ _ _ _ (loop-test .taken) (token .ensures) refl (omega (arith, ap codeOf (c .enum-told3 .given .1))) in
-    omega (arith, ahead)
-
-loop-again-3 : tie.Need-loop-again-3 Inv-loop μ-loop
-loop-again-3 c =
-    let loop = c .before .before .before .before .loop in
-    let loop-test = c .before .before .before .loop-test in
-    let token = c .before .before .token in
-    let ahead = law.count-ahead _ _ _ _ (loop-test .taken) (token .ensures) refl (omega (arith, ap codeOf (c .enum-told3 .given .1))) in
-    (omega (arith, ahead), loop .inv .1 ∙ law.count-dot _ _ _ _ (loop-test .taken) (token .ensures) refl _ (ap codeOf (c .enum-told3 .given .1)))
-
-returns-2 : tie.Need-returns-2 Inv-loop μ-loop
-returns-2 c =
-    let args = c .before .before .before .args in
-    sym (c .before .loop .inv .1 ∙ law.count-end (args .s .now) _ _ (c .loop-test .left))
+returns-2 : tie.Need-returns-2
+returns-2 c = c .counted2 .ensures
 
 pub count-spec : {M : Type 1} → statement M
 count-spec =
     tie.close
-    (tie.spec
-    Inv-loop
-    μ-loop
-    loop-holds
-    token-requires
-    enum-told
-    add-n
-    enum-told-2
-    enum-told-3
-    returns
-    loop-less
-    loop-again
-    loop-less-2
-    loop-again-2
-    loop-less-3
-    loop-again-3
-    returns-2)
+    (tie.spec stands-requires counted-requires returns counted-requires-2 returns-2)

@@ -1,17 +1,18 @@
 use mathlib.Core.Path.{sym, _∙_}
-use borrow.Author.Needs.{needs}
+use Rattle.wants.specs.Given.{want-of, any-of}
 use Rattle.text.specs.Productions.{modeAt}
+use borrow.Author.Needs.{needs}
 use Rattle.productions.proofs.modes.begin.Statement.{statement}
 use Rattle.productions.proofs.modes.begin.Tie as tie
 
 stands-requires : tie.Need-stands-requires
 stands-requires c κs = search needs
 
-any-requires : tie.Need-any-requires
-any-requires c κs = search needs
+given-any-requires : tie.Need-given-any-requires
+given-any-requires c κs = search needs
 
-key-mode-requires : tie.Need-key-mode-requires
-key-mode-requires c κs = search needs
+next-requires : tie.Need-next-requires
+next-requires c κs = search needs
 
 behind-requires : tie.Need-behind-requires
 behind-requires c κs = search needs
@@ -21,11 +22,12 @@ unfolding modeAt
 returns c =
     let stands = c .before .before .before .before .stands in
     let if1 = c .before .before .before .if1 in
-    let any = c .before .before .any in
-    simp (← any .ensures, ← c .before .key-mode .ensures, ← c .behind .ensures, sym (stands .ensures) ∙ if1 .taken)
+    let given-any = c .before .before .given-any in
+    let next = c .before .next in
+    λ p. simp (← p, ← given-any .ensures ∙ any-of _ _ _ p, ← next .ensures, ← c .behind .ensures, sym (stands .ensures) ∙ if1 .taken)
 
-key-mode-requires-2 : tie.Need-key-mode-requires-2
-key-mode-requires-2 c κs = search needs
+given-requires : tie.Need-given-requires
+given-requires c κs = search needs
 
 behind-requires-2 : tie.Need-behind-requires-2
 behind-requires-2 c κs = search needs
@@ -35,17 +37,18 @@ unfolding modeAt
 returns-2 c =
     let stands = c .before .before .before .stands in
     let if1 = c .before .before .if1 in
-    simp (← c .before .key-mode2 .ensures, ← c .behind2 .ensures, sym (stands .ensures) ∙ if1 .left)
+    let given = c .before .given in
+    λ p. simp (← p, ← given .ensures ∙ want-of _ _ _ p _, ← c .behind2 .ensures, sym (stands .ensures) ∙ if1 .left)
 
 pub begin-spec : {M : Type 1} → statement M
 begin-spec =
     tie.close
     (tie.spec
     stands-requires
-    any-requires
-    key-mode-requires
+    given-any-requires
+    next-requires
     behind-requires
     returns
-    key-mode-requires-2
+    given-requires
     behind-requires-2
     returns-2)

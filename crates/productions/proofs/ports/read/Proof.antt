@@ -1,20 +1,27 @@
 use mathlib.Core.Path.{sym, _∙_}
-use borrow.Author.Needs.{needs}
+use Rattle.wants.specs.Given.{want-of}
 use Rattle.text.specs.Productions.{portAt}
+use borrow.Author.Needs.{needs}
 use Rattle.productions.proofs.ports.read.Statement.{statement}
 use Rattle.productions.proofs.ports.read.Tie as tie
 
-name-requires : tie.Need-name-requires
-name-requires c κs = search needs
+next-requires : tie.Need-next-requires
+next-requires c κs = search needs
+
+token-requires : tie.Need-token-requires
+token-requires c κs = search needs
 
 stands-requires : tie.Need-stands-requires
 stands-requires c κs = search needs
 
-dot-requires : tie.Need-dot-requires
-dot-requires c κs = search needs
+given-requires : tie.Need-given-requires
+given-requires c κs = search needs
 
-name-requires-2 : tie.Need-name-requires-2
-name-requires-2 c κs = search needs
+next-requires-2 : tie.Need-next-requires-2
+next-requires-2 c κs = search needs
+
+token-requires-2 : tie.Need-token-requires-2
+token-requires-2 c κs = search needs
 
 with-requires : tie.Need-with-requires
 with-requires c κs = search needs
@@ -22,11 +29,14 @@ with-requires c κs = search needs
 returns : tie.Need-returns
 unfolding portAt
 returns c =
-    let name = c .before .before .before .before .before .name in
-    let stands = c .before .before .before .before .stands in
-    let if1 = c .before .before .before .if1 in
-    let dot = c .before .before .dot in
-    simp (← name .ensures, ← dot .ensures, ← c .before .name2 .ensures, ← c .with .ensures, sym (stands .ensures) ∙ if1 .taken)
+    let next = c .before .before .before .before .before .before .before .next in
+    let token = c .before .before .before .before .before .before .token in
+    let stands = c .before .before .before .before .before .stands in
+    let if1 = c .before .before .before .before .if1 in
+    let given = c .before .before .before .given in
+    let next2 = c .before .before .next2 in
+    let token2 = c .before .token2 in
+    c .with .ensures ∙ sym (simp (← next .ensures, ← token .ensures, ← given .ensures ∙ want-of _ _ _ (token .ensures) _, ← next2 .ensures, ← token2 .ensures, sym (stands .ensures) ∙ if1 .taken))
 
 with-requires-2 : tie.Need-with-requires-2
 with-requires-2 c κs = search needs
@@ -34,18 +44,22 @@ with-requires-2 c κs = search needs
 returns-2 : tie.Need-returns-2
 unfolding portAt
 returns-2 c =
-    let name = c .before .before .before .name in
+    let next = c .before .before .before .before .next in
+    let token = c .before .before .before .token in
     let stands = c .before .before .stands in
-    simp (← name .ensures, ← c .with2 .ensures, sym (stands .ensures) ∙ c .before .if1 .left)
+    let if1 = c .before .if1 in
+    c .with2 .ensures ∙ sym (simp (← next .ensures, ← token .ensures, sym (stands .ensures) ∙ if1 .left))
 
 pub read-spec : {M : Type 1} → statement M
 read-spec =
     tie.close
     (tie.spec
-    name-requires
+    next-requires
+    token-requires
     stands-requires
-    dot-requires
-    name-requires-2
+    given-requires
+    next-requires-2
+    token-requires-2
     with-requires
     returns
     with-requires-2

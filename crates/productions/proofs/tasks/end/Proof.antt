@@ -1,19 +1,16 @@
-use borrow.Author.Needs.{needs}
 use Rattle.text.specs.Productions.{taskEndAt}
+use borrow.Author.Needs.{needs}
 use Rattle.productions.proofs.tasks.end.Statement.{statement}
 use Rattle.productions.proofs.tasks.end.Tie as tie
 
-key-uses-requires : tie.Need-key-uses-requires
-key-uses-requires c κs = search needs
+next-requires : tie.Need-next-requires
+next-requires c κs = search needs
 
-name-requires : tie.Need-name-requires
-name-requires c κs = search needs
+next-requires-2 : tie.Need-next-requires-2
+next-requires-2 c κs = search needs
 
-semicolon-requires : tie.Need-semicolon-requires
-semicolon-requires c κs = search needs
-
-right-brace-requires : tie.Need-right-brace-requires
-right-brace-requires c κs = search needs
+next-requires-3 : tie.Need-next-requires-3
+next-requires-3 c κs = search needs
 
 name-of-requires : tie.Need-name-of-requires
 name-of-requires c κs = search needs
@@ -24,20 +21,19 @@ close-requires c κs = search needs
 returns : tie.Need-returns
 unfolding taskEndAt
 returns c =
-    let key-uses = c .before .before .before .before .before .key-uses in
-    let name = c .before .before .before .before .name in
-    let semicolon = c .before .before .before .semicolon in
-    let right-brace = c .before .before .right-brace in
-    simp (← key-uses .ensures, ← name .ensures, ← semicolon .ensures, ← right-brace .ensures, ← c .before .name-of .ensures, ← c .close .ensures)
+    let next = c .before .before .before .before .next in
+    let next2 = c .before .before .before .next2 in
+    let next3 = c .before .before .next3 in
+    let name-of = c .before .name-of in
+    λ g p. simp (← p, ← next .ensures, ← next2 .ensures, ← next3 .ensures, ← name-of .ensures, ← c .close .ensures)
 
 pub end-spec : {M : Type 1} → statement M
 end-spec =
     tie.close
     (tie.spec
-    key-uses-requires
-    name-requires
-    semicolon-requires
-    right-brace-requires
+    next-requires
+    next-requires-2
+    next-requires-3
     name-of-requires
     close-requires
     returns)

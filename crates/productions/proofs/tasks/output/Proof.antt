@@ -1,16 +1,13 @@
-use borrow.Author.Needs.{needs}
 use Rattle.text.specs.Productions.{outputAt}
+use borrow.Author.Needs.{needs}
 use Rattle.productions.proofs.tasks.output.Statement.{statement}
 use Rattle.productions.proofs.tasks.output.Tie as tie
 
-name-requires : tie.Need-name-requires
-name-requires c κs = search needs
+next-requires : tie.Need-next-requires
+next-requires c κs = search needs
 
-name-requires-2 : tie.Need-name-requires-2
-name-requires-2 c κs = search needs
-
-becomes-requires : tie.Need-becomes-requires
-becomes-requires c κs = search needs
+next-requires-2 : tie.Need-next-requires-2
+next-requires-2 c κs = search needs
 
 read-requires : tie.Need-read-requires
 read-requires c κs = search needs
@@ -18,8 +15,8 @@ read-requires c κs = search needs
 past-requires : tie.Need-past-requires
 past-requires c κs = search needs
 
-semicolon-requires : tie.Need-semicolon-requires
-semicolon-requires c κs = search needs
+next-requires-3 : tie.Need-next-requires-3
+next-requires-3 c κs = search needs
 
 name-of-requires : tie.Need-name-of-requires
 name-of-requires c κs = search needs
@@ -33,25 +30,24 @@ close-requires c κs = search needs
 returns : tie.Need-returns
 unfolding outputAt
 returns c =
-    let name = c .before .before .before .before .before .before .before .before .name in
-    let name2 = c .before .before .before .before .before .before .before .name2 in
-    let becomes = c .before .before .before .before .before .before .becomes in
+    let next = c .before .before .before .before .before .before .before .next in
+    let next2 = c .before .before .before .before .before .before .next2 in
     let read = c .before .before .before .before .before .read in
     let past = c .before .before .before .before .past in
-    let semicolon = c .before .before .before .semicolon in
+    let next3 = c .before .before .before .next3 in
     let name-of = c .before .before .name-of in
-    simp (← name .ensures, ← name2 .ensures, ← becomes .ensures, ← read .ensures, ← past .ensures, ← semicolon .ensures, ← name-of .ensures, ← c .before .name-of2 .ensures, ← c .close .ensures)
+    let name-of2 = c .before .name-of2 in
+    λ g p. simp (← p, ← next .ensures, ← next2 .ensures, ← read .ensures, ← past .ensures, ← next3 .ensures, ← name-of .ensures, ← name-of2 .ensures, ← c .close .ensures)
 
 pub output-spec : {M : Type 1} → statement M
 output-spec =
     tie.close
     (tie.spec
-    name-requires
-    name-requires-2
-    becomes-requires
+    next-requires
+    next-requires-2
     read-requires
     past-requires
-    semicolon-requires
+    next-requires-3
     name-of-requires
     name-of-requires-2
     close-requires

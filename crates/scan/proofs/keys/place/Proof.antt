@@ -1,88 +1,95 @@
-use Prim.Native.Nat.{_-_, _≤_}
+use Prim.Native.Nat.{_+_, _-_, _≤_, _<_, min}
 use native.Mathlib.Omega.{arith}
 use mathlib.Core.Path.{_≡_, sym, ap, _∙_}
 use denote.Ref.{now}
-use lib.ListN.{drop}
+use lib.ListN.{length}
 use lib.Seq.{slice}
 use borrow.Author.Needs.{needs}
-use Rattle.model.specs.Bytes.{same, placeIn}
-use Rattle.text.specs.Words.{keywords}
-use Rattle.text.specs.KeyTable as table
-use Rattle.scan.specs.KeyRow.{key-row}
+use Rattle.model.specs.Bytes.{same}
+use Rattle.scan.specs.Slices.{slice-length}
+use Rattle.scan.specs.KeyMarks as law
 use Rattle.scan.proofs.keys.place.Statement.{statement}
 use Rattle.scan.proofs.keys.place.Tie as tie
 
-abbrev Inv-loop : tie.InvT-loop
-Inv-loop s start end keys lengths k₀ k = (k ≤ 22) × (placeIn keywords 0 (slice start end s) ≡ placeIn (drop k keywords) k (slice start end s))
+sub-n : tie.Need-sub-n
+sub-n c = search needs
 
-abbrev μ-loop : tie.MeasureT-loop
-μ-loop s start end keys lengths k₀ k = 22 - k
-
-loop-holds : tie.Need-loop-holds Inv-loop μ-loop
-loop-holds c = search needs
-
-mul-first : tie.Need-mul-first Inv-loop μ-loop
-mul-first c = search needs
-
-mul-last : tie.Need-mul-last Inv-loop μ-loop
-mul-last c = search needs
-
-array-read-last : tie.Need-array-read-last Inv-loop μ-loop
-array-read-last c = search needs
-
-add-last : tie.Need-add-last Inv-loop μ-loop
-add-last c = omega (arith, c .loop-test .taken, table.key-short (c .before .loop .k) (c .loop-test .taken))
-
-sub-same : tie.Need-sub-same Inv-loop μ-loop
-sub-same c = search needs
-
-part-same-start : tie.Need-part-same-start Inv-loop μ-loop
-part-same-start c = search needs
-
-part-same-end : tie.Need-part-same-end Inv-loop μ-loop
-part-same-end c = omega (arith, c .before .loop-test .taken, table.key-short (c .before .before .loop .k) (c .before .loop-test .taken))
-
-same-requires : tie.Need-same-requires Inv-loop μ-loop
-same-requires c κs = search needs
-
-returns : tie.Need-returns Inv-loop μ-loop
+returns : tie.Need-returns
 returns c =
-    sym (c .before .before .before .before .before .loop .inv .1
-    ∙ table.key-out _ (c .before .before .before .before .loop-test .taken) _ (sym (c .before .same .ensures ∙ ap (same (slice (c .before .before .before .before .before .before .before .args .start) (c .before .before .before .before .before .before .before .args .end) (now (c .before .before .before .before .before .before .before .args .s)))) (key-row (c .before .before .before .before .before .loop .k) (c .before .before .before .before .loop-test .taken))) ∙ c .if1 .taken))
+    let args = c .before .before .args in
+    sym (law.too-short _ (omega (arith, slice-length (args .start) (args .end) (args .s .now))))
 
-add-k : tie.Need-add-k Inv-loop μ-loop
-add-k c = search needs
+returns-2 : tie.Need-returns-2
+returns-2 c =
+    let args = c .before .before .before .args in
+    sym (law.too-long _ (omega (arith, slice-length (args .start) (args .end) (args .s .now))))
 
-loop-less : tie.Need-loop-less Inv-loop μ-loop
-loop-less c = search needs
+sub-wide : tie.Need-sub-wide
+sub-wide c = search needs
 
-loop-again : tie.Need-loop-again Inv-loop μ-loop
-loop-again c = (
-  search needs,
-  c .before .before .before .before .before .loop .inv .1
-      ∙ table.key-on _ (c .before .before .before .before .loop-test .taken) _ (sym (c .before .same .ensures ∙ ap (same (slice (c .before .before .before .before .before .before .before .args .start) (c .before .before .before .before .before .before .before .args .end) (now (c .before .before .before .before .before .before .before .args .s)))) (key-row (c .before .before .before .before .before .loop .k) (c .before .before .before .before .loop-test .taken))) ∙ c .if1 .left),
-)
+shared-slice-read-wide : tie.Need-shared-slice-read-wide
+shared-slice-read-wide c = search needs
 
-returns-2 : tie.Need-returns-2 Inv-loop μ-loop
-returns-2 c = sym (c .before .loop .inv .1 ∙ table.key-end _ _ (c .loop-test .left))
+wide-requires : tie.Need-wide-requires
+wide-requires c κs = search needs
+
+shared-slice-read-wide-2 : tie.Need-shared-slice-read-wide-2
+shared-slice-read-wide-2 c = search needs
+
+wide-requires-2 : tie.Need-wide-requires-2
+wide-requires-2 c κs = search needs
+
+mul-candidate : tie.Need-mul-candidate
+mul-candidate c = search needs
+
+add-candidate : tie.Need-add-candidate
+add-candidate c = search needs
+
+mul-candidate-2 : tie.Need-mul-candidate-2
+mul-candidate-2 c = search needs
+
+add-candidate-2 : tie.Need-add-candidate-2
+add-candidate-2 c = search needs
+
+candidate-requires : tie.Need-candidate-requires
+candidate-requires c κs = search needs
+
+spells-requires : tie.Need-spells-requires
+spells-requires c κs = search needs
+
+returns-3 : tie.Need-returns-3
+returns-3 c = sym (law.place-at _ (c .before .before .if3 .taken) _ (sym (c .before .spells .ensures) ∙ c .if4 .taken))
+
+returns-4 : tie.Need-returns-4
+returns-4 c =
+    let args = c .before .before .before .before .before .before .before .before .before .before .before .args in
+    let mark = law.mark-slice (args .s .now) (args .start) (args .end) (search needs) (search needs) in
+    sym (law.unlike _ _ (c .before .before .before .candidate .ensures ∙ ap law.marked (rw (c .before .before .before .before .before .before .wide .ensures .0, c .before .before .before .before .wide2 .ensures .0) mark)) (λ h. sym (c .before .spells .ensures) ∙ c .if4 .left))
+
+returns-5 : tie.Need-returns-5
+returns-5 c =
+    let args = c .before .before .before .before .before .before .before .before .before .args in
+    let mark = law.mark-slice (args .s .now) (args .start) (args .end) (search needs) (search needs) in
+    sym (law.unlike _ _ (c .before .candidate .ensures ∙ ap law.marked (rw (c .before .before .before .before .wide .ensures .0, c .before .before .wide2 .ensures .0) mark)) (λ h. absurd (omega (arith, h, c .if3 .left))))
 
 pub place-spec : {M : Type 1} → statement M
 place-spec =
     tie.close
     (tie.spec
-    Inv-loop
-    μ-loop
-    loop-holds
-    mul-first
-    mul-last
-    array-read-last
-    add-last
-    sub-same
-    part-same-start
-    part-same-end
-    same-requires
+    sub-n
     returns
-    add-k
-    loop-less
-    loop-again
-    returns-2)
+    returns-2
+    sub-wide
+    shared-slice-read-wide
+    wide-requires
+    shared-slice-read-wide-2
+    wide-requires-2
+    mul-candidate
+    add-candidate
+    mul-candidate-2
+    add-candidate-2
+    candidate-requires
+    spells-requires
+    returns-3
+    returns-4
+    returns-5)
