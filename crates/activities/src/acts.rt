@@ -1,11 +1,13 @@
 // What an activity does: a task invoked, an actuator updated, a switch of the mode.
 ghost use mathlib.Core.Path.{_≡_};
-ghost use mathlib.Core.List.{_++_};
+ghost use Prim.Native.Nat.{ℕ};
+ghost use mathlib.Core.List.{List, _++_};
 ghost use lib.ListN.{take};
 ghost use Rattle.refusals.specs.Checks.{first};
 ghost use Rattle.refusals.specs.Ports.{portRules};
 ghost use Rattle.refusals.specs.Twice.{twiceOf};
 ghost use Rattle.names.specs.Tables.{rowsIn};
+ghost use Rattle.names.specs.Index.{Indexed};
 ghost use Rattle.activities.specs.Kept.{callChecks, updateChecks, targetChecks};
 use super::frequencies;
 use names::Scope;
@@ -74,7 +76,7 @@ pub fn update_rules(
     name: Name,
     source: Port,
 ) -> Verdict
-    ensures { λ r. ⌜ r ≡ first (updateChecks again actuator name ++ portRules (now (s .entry)) (rowsIn (now (cells .entry)) n) (actuator .typ) source) ⌝ }
+    ensures { λ r. ⌜ (Indexed (now (s .entry)) (now (cells .entry)) → r ≡ first (updateChecks again actuator name ++ portRules (now (s .entry)) (rowsIn (now (cells .entry)) n) (actuator .typ) source)) ⌝ }
 {
     let once = update_name_rules(again, actuator, name);
     let Verdict::Fine = once else {
@@ -92,7 +94,7 @@ pub fn call_rules(
     name: Name,
     count: usize,
 ) -> Verdict
-    ensures { λ r. ⌜ r ≡ first (callChecks (rowsIn (now (cells .entry)) n) again task name count) ⌝ }
+    ensures { λ r. ⌜ ((s : List ℕ) → Indexed s (now (cells .entry)) → r ≡ first (callChecks (rowsIn (now (cells .entry)) n) again task name count)) ⌝ }
 {
     let short = judging::name_rules(name);
     let Verdict::Fine = short else {

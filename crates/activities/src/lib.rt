@@ -1,5 +1,5 @@
 // The rules 7 to 12 that modes and their activities must keep, part by part.
-// Promises that each function answers with the first of its rules that is broken, in text order, as the definitions of refusals list them.
+// Promises that each function answers with the first of its rules that is broken, in text order, as the definitions of refusals list them, where the index of the table is right for the text.
 // Builds on the rules of names and ports, on what names mean, and on the table of names.
 ghost use mathlib.Core.Path.{_≡_};
 ghost use mathlib.Core.List.{_++_};
@@ -8,6 +8,7 @@ ghost use Rattle.refusals.specs.Refusals.{beyond as beyondRoom};
 ghost use Rattle.refusals.specs.Declarations.{newRules};
 ghost use Rattle.refusals.specs.Activities.{startRules, periodRules, endRules};
 ghost use Rattle.names.specs.Tables.{rowsIn};
+ghost use Rattle.names.specs.Index.{Indexed};
 ghost use Rattle.activities.specs.Kept.{periodKept};
 use refusals::Verdict;
 use text::Name;
@@ -75,7 +76,7 @@ pub fn mode_rules(
     digits: Name,
     milli: bool,
 ) -> Verdict
-    ensures { λ r. ⌜ r ≡ first (startRules started start at ++ (newRules (now (s .entry)) (rowsIn (now (cells .entry)) n) 4 name ++ periodRules (now (s .entry)) digits milli)) ⌝ }
+    ensures { λ r. ⌜ (Indexed (now (s .entry)) (now (cells .entry)) → r ≡ first (startRules started start at ++ (newRules (now (s .entry)) (rowsIn (now (cells .entry)) n) 4 name ++ periodRules (now (s .entry)) digits milli))) ⌝ }
 {
     let once = start_rules(started, start, at);
     let Verdict::Fine = once else {

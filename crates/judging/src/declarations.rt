@@ -1,12 +1,14 @@
 // What is declared: 4, 5 and 11 of its name, and the rules of its parts.
 ghost use mathlib.Core.Path.{_≡_};
-ghost use mathlib.Core.List.{[], _∷_, _++_};
+ghost use Prim.Native.Nat.{ℕ};
+ghost use mathlib.Core.List.{List, [], _∷_, _++_};
 ghost use Rattle.refusals.specs.Checks.{first};
 ghost use Rattle.refusals.specs.Names.{noType};
 ghost use Rattle.refusals.specs.Refusals.{longName};
 ghost use Rattle.refusals.specs.Values.{typeNamed, typeRules, valueRules};
 ghost use Rattle.refusals.specs.Declarations.{roomOf, newRules, newPortRules};
 ghost use Rattle.names.specs.Tables.{rowsIn};
+ghost use Rattle.names.specs.Index.{Indexed};
 ghost use Rattle.judging.specs.Rooms.{freshRules, portRoomRules};
 use names::Scope;
 use names::Sought;
@@ -30,7 +32,7 @@ fn room_of(sort: usize) -> usize
 
 // A name that is declared in a scope: its length, and that it has no meaning there yet.
 fn fresh_rules(s: &[u8], cells: &[usize], n: usize, scope: usize, name: Name) -> Verdict
-    ensures { λ r. ⌜ r ≡ first (freshRules (now (s .entry)) (rowsIn (now (cells .entry)) n) scope name) ⌝ }
+    ensures { λ r. ⌜ (Indexed (now (s .entry)) (now (cells .entry)) → r ≡ first (freshRules (now (s .entry)) (rowsIn (now (cells .entry)) n) scope name)) ⌝ }
 {
     if super::too_long(name) {
         return Verdict::No {
@@ -50,7 +52,7 @@ fn fresh_rules(s: &[u8], cells: &[usize], n: usize, scope: usize, name: Name) ->
 
 // A name declared in the module's name space.
 pub fn new_rules(s: &[u8], cells: &[usize], n: usize, sort: usize, name: Name) -> Verdict
-    ensures { λ r. ⌜ r ≡ first (newRules (now (s .entry)) (rowsIn (now (cells .entry)) n) sort name) ⌝ }
+    ensures { λ r. ⌜ (Indexed (now (s .entry)) (now (cells .entry)) → r ≡ first (newRules (now (s .entry)) (rowsIn (now (cells .entry)) n) sort name)) ⌝ }
 {
     let fresh = fresh_rules(s, cells, n, 0, name);
     let Verdict::Fine = fresh else {
@@ -69,7 +71,7 @@ pub fn new_rules(s: &[u8], cells: &[usize], n: usize, sort: usize, name: Name) -
 
 // The room of an input or output in a scope, and in all.
 fn full_rules(cells: &[usize], n: usize, scope: usize, sort: usize, at: usize) -> Verdict
-    ensures { λ r. ⌜ r ≡ first (portRoomRules (rowsIn (now (cells .entry)) n) scope sort at) ⌝ }
+    ensures { λ r. ⌜ ((s : List ℕ) → Indexed s (now (cells .entry)) → r ≡ first (portRoomRules (rowsIn (now (cells .entry)) n) scope sort at)) ⌝ }
 {
     let own = names::count(
         cells,
@@ -91,7 +93,7 @@ fn full_rules(cells: &[usize], n: usize, scope: usize, sort: usize, at: usize) -
 
 // An input or output, declared in its task's.
 pub fn new_port_rules(s: &[u8], cells: &[usize], n: usize, sort: usize, name: Name) -> Verdict
-    ensures { λ r. ⌜ r ≡ first (newPortRules (now (s .entry)) (rowsIn (now (cells .entry)) n) sort name) ⌝ }
+    ensures { λ r. ⌜ (Indexed (now (s .entry)) (now (cells .entry)) → r ≡ first (newPortRules (now (s .entry)) (rowsIn (now (cells .entry)) n) sort name)) ⌝ }
 {
     let scope = names::count(cells, n, Sought::Sort(3));
     let fresh = fresh_rules(s, cells, n, scope, name);
@@ -103,7 +105,7 @@ pub fn new_port_rules(s: &[u8], cells: &[usize], n: usize, sort: usize, name: Na
 
 // A constant.
 pub fn constant_rules(s: &[u8], cells: &[usize], n: usize, name: Name, value: Literal) -> Verdict
-    ensures { λ r. ⌜ r ≡ first (newRules (now (s .entry)) (rowsIn (now (cells .entry)) n) 0 name ++ valueRules (now (s .entry)) (rowsIn (now (cells .entry)) n) noType value) ⌝ }
+    ensures { λ r. ⌜ (Indexed (now (s .entry)) (now (cells .entry)) → r ≡ first (newRules (now (s .entry)) (rowsIn (now (cells .entry)) n) 0 name ++ valueRules (now (s .entry)) (rowsIn (now (cells .entry)) n) noType value)) ⌝ }
 {
     let fresh = new_rules(s, cells, n, 0, name);
     let Verdict::Fine = fresh else {
@@ -121,7 +123,7 @@ pub fn sensor_rules(
     name: Name,
     getter: Name,
 ) -> Verdict
-    ensures { λ r. ⌜ r ≡ first (typeRules (now (s .entry)) typ ++ (newRules (now (s .entry)) (rowsIn (now (cells .entry)) n) 1 name ++ (longName getter ∷ []))) ⌝ }
+    ensures { λ r. ⌜ (Indexed (now (s .entry)) (now (cells .entry)) → r ≡ first (typeRules (now (s .entry)) typ ++ (newRules (now (s .entry)) (rowsIn (now (cells .entry)) n) 1 name ++ (longName getter ∷ [])))) ⌝ }
 {
     let known = super::type_rules(s, typ);
     let Verdict::Fine = known else {
@@ -136,7 +138,7 @@ pub fn sensor_rules(
 
 // A value of the type of this name.
 fn start_rules(s: &[u8], cells: &[usize], n: usize, typ: Name, value: Literal) -> Verdict
-    ensures { λ r. ⌜ r ≡ first (valueRules (now (s .entry)) (rowsIn (now (cells .entry)) n) (typeNamed (now (s .entry)) typ) value) ⌝ }
+    ensures { λ r. ⌜ (Indexed (now (s .entry)) (now (cells .entry)) → r ≡ first (valueRules (now (s .entry)) (rowsIn (now (cells .entry)) n) (typeNamed (now (s .entry)) typ) value)) ⌝ }
 {
     let wanted = meanings::type_named(s, typ);
     super::value_rules(s, cells, n, wanted, value)
@@ -152,7 +154,7 @@ pub fn actuator_rules(
     value: Literal,
     setter: Name,
 ) -> Verdict
-    ensures { λ r. ⌜ r ≡ first (typeRules (now (s .entry)) typ ++ (newRules (now (s .entry)) (rowsIn (now (cells .entry)) n) 2 name ++ (valueRules (now (s .entry)) (rowsIn (now (cells .entry)) n) (typeNamed (now (s .entry)) typ) value ++ (longName setter ∷ [])))) ⌝ }
+    ensures { λ r. ⌜ (Indexed (now (s .entry)) (now (cells .entry)) → r ≡ first (typeRules (now (s .entry)) typ ++ (newRules (now (s .entry)) (rowsIn (now (cells .entry)) n) 2 name ++ (valueRules (now (s .entry)) (rowsIn (now (cells .entry)) n) (typeNamed (now (s .entry)) typ) value ++ (longName setter ∷ []))))) ⌝ }
 {
     let known = super::type_rules(s, typ);
     let Verdict::Fine = known else {
@@ -171,7 +173,7 @@ pub fn actuator_rules(
 
 // An input of a task.
 pub fn input_rules(s: &[u8], cells: &[usize], n: usize, typ: Name, name: Name) -> Verdict
-    ensures { λ r. ⌜ r ≡ first (typeRules (now (s .entry)) typ ++ newPortRules (now (s .entry)) (rowsIn (now (cells .entry)) n) 5 name) ⌝ }
+    ensures { λ r. ⌜ (Indexed (now (s .entry)) (now (cells .entry)) → r ≡ first (typeRules (now (s .entry)) typ ++ newPortRules (now (s .entry)) (rowsIn (now (cells .entry)) n) 5 name)) ⌝ }
 {
     let known = super::type_rules(s, typ);
     let Verdict::Fine = known else {
@@ -189,7 +191,7 @@ pub fn output_rules(
     name: Name,
     value: Literal,
 ) -> Verdict
-    ensures { λ r. ⌜ r ≡ first (typeRules (now (s .entry)) typ ++ (newPortRules (now (s .entry)) (rowsIn (now (cells .entry)) n) 6 name ++ valueRules (now (s .entry)) (rowsIn (now (cells .entry)) n) (typeNamed (now (s .entry)) typ) value)) ⌝ }
+    ensures { λ r. ⌜ (Indexed (now (s .entry)) (now (cells .entry)) → r ≡ first (typeRules (now (s .entry)) typ ++ (newPortRules (now (s .entry)) (rowsIn (now (cells .entry)) n) 6 name ++ valueRules (now (s .entry)) (rowsIn (now (cells .entry)) n) (typeNamed (now (s .entry)) typ) value))) ⌝ }
 {
     let known = super::type_rules(s, typ);
     let Verdict::Fine = known else {

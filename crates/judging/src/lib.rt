@@ -1,5 +1,5 @@
 // The rules 4 to 8 and 11 that names, types, values, declarations and ports must keep, part by part.
-// Promises that each function answers with the first of its rules that is broken, in text order, as the definitions of refusals list them.
+// Promises that each function answers with the first of its rules that is broken, in text order, as the definitions of refusals list them, where the index of the table is right for the text.
 // Builds on what names mean, and on the table of names.
 ghost use mathlib.Core.Path.{_≡_};
 ghost use mathlib.Core.List.{[], _∷_};
@@ -9,6 +9,7 @@ ghost use Rattle.refusals.specs.Checks.{first};
 ghost use Rattle.refusals.specs.Refusals.{longName, clash as clashing, beyondInt};
 ghost use Rattle.refusals.specs.Values.{typeRules, useRules, valueRules};
 ghost use Rattle.names.specs.Tables.{rowsIn};
+ghost use Rattle.names.specs.Index.{Indexed};
 use names::Scope;
 use refusals::Row;
 use refusals::Verdict;
@@ -127,7 +128,7 @@ fn number_rules(s: &[u8], wanted: usize, at: usize, digits: Name, minus: bool) -
 
 // A value, where a type is wanted.
 pub fn value_rules(s: &[u8], cells: &[usize], n: usize, wanted: usize, literal: Literal) -> Verdict
-    ensures { λ r. ⌜ r ≡ first (valueRules (now (s .entry)) (rowsIn (now (cells .entry)) n) wanted literal) ⌝ }
+    ensures { λ r. ⌜ (Indexed (now (s .entry)) (now (cells .entry)) → r ≡ first (valueRules (now (s .entry)) (rowsIn (now (cells .entry)) n) wanted literal)) ⌝ }
 {
     match literal {
         Literal::Truth { at, yes: _ } => {

@@ -1,8 +1,11 @@
 // Ports and arguments as they are written: 4, 6 and 7.
 ghost use mathlib.Core.Path.{_≡_};
 ghost use Rattle.refusals.specs.Checks.{first};
-ghost use Rattle.refusals.specs.Ports.{dottedRules, placeRules, portRules, argumentRules};
+ghost use Rattle.refusals.specs.Ports.{dottedRules, portRules, argumentRules};
 ghost use Rattle.names.specs.Tables.{rowsIn};
+ghost use Rattle.names.specs.Index.{Indexed};
+ghost use Rattle.judging.specs.Parted.{partedRules};
+use names::Scope;
 use refusals::Row;
 use refusals::Verdict;
 use text::Port;
@@ -49,30 +52,37 @@ fn dotted_rules(wanted: usize, task: Row, output: Row, port: Port) -> Verdict
     Verdict::Fine
 }
 
-// A port or an argument that means this row, where a type is wanted.
-fn place_rules(s: &[u8], cells: &[usize], n: usize, wanted: usize, row: Row, port: Port) -> Verdict
-    ensures { λ r. ⌜ r ≡ first (placeRules (now (s .entry)) (rowsIn (now (cells .entry)) n) wanted row port) ⌝ }
+// Task "." output as it is written, where a type is wanted.
+fn parted_rules(s: &[u8], cells: &[usize], n: usize, wanted: usize, port: Port) -> Verdict
+    ensures { λ r. ⌜ (Indexed (now (s .entry)) (now (cells .entry)) → r ≡ first (partedRules (now (s .entry)) (rowsIn (now (cells .entry)) n) wanted port)) ⌝ }
 {
     let first = port.first;
-    if port.dotted {
-        let task = meanings::task_named(s, cells, n, first);
-        return dotted_rules(wanted, task, row, port);
-    }
-    super::use_rules(wanted, row, first)
+    let task = meanings::task_named(s, cells, n, first);
+    let second = port.second;
+    let output = meanings::output_of(s, cells, n, task, second);
+    dotted_rules(wanted, task, output, port)
 }
 
 // A port, where a type is wanted.
 pub fn port_rules(s: &[u8], cells: &[usize], n: usize, wanted: usize, port: Port) -> Verdict
-    ensures { λ r. ⌜ r ≡ first (portRules (now (s .entry)) (rowsIn (now (cells .entry)) n) wanted port) ⌝ }
+    ensures { λ r. ⌜ (Indexed (now (s .entry)) (now (cells .entry)) → r ≡ first (portRules (now (s .entry)) (rowsIn (now (cells .entry)) n) wanted port)) ⌝ }
 {
-    let row = meanings::port_named(s, cells, n, port);
-    place_rules(s, cells, n, wanted, row, port)
+    if port.dotted {
+        return parted_rules(s, cells, n, wanted, port);
+    }
+    let first = port.first;
+    let sensor = meanings::named(s, cells, n, Scope::Numbered(0), 1, first);
+    super::use_rules(wanted, sensor, first)
 }
 
 // A guard's argument, where a type is wanted.
 pub fn argument_rules(s: &[u8], cells: &[usize], n: usize, wanted: usize, port: Port) -> Verdict
-    ensures { λ r. ⌜ r ≡ first (argumentRules (now (s .entry)) (rowsIn (now (cells .entry)) n) wanted port) ⌝ }
+    ensures { λ r. ⌜ (Indexed (now (s .entry)) (now (cells .entry)) → r ≡ first (argumentRules (now (s .entry)) (rowsIn (now (cells .entry)) n) wanted port)) ⌝ }
 {
+    if port.dotted {
+        return parted_rules(s, cells, n, wanted, port);
+    }
+    let first = port.first;
     let row = meanings::argument_named(s, cells, n, port);
-    place_rules(s, cells, n, wanted, row, port)
+    super::use_rules(wanted, row, first)
 }

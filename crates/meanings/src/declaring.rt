@@ -5,6 +5,7 @@ ghost use Rattle.refusals.specs.Names.{rowOf};
 ghost use Rattle.refusals.specs.Values.{typeNamed};
 ghost use Rattle.refusals.specs.Declarations.{portsIn, declares};
 ghost use Rattle.names.specs.Tables.{rowsIn};
+ghost use Rattle.names.specs.Index.{Indexed};
 ghost use Rattle.meanings.specs.Held.{rowsOf, heldRow};
 use names::Sought;
 use refusals::Row;
@@ -40,7 +41,7 @@ fn port_row(
     scope: usize,
     sort: usize,
 ) -> Row
-    ensures { λ r. ⌜ r ≡ rowOf name scope sort (typeNamed (now (s .entry)) typ) (portsIn (rowsIn (now (cells .entry)) n)) ⌝ }
+    ensures { λ r. ⌜ (Indexed (now (s .entry)) (now (cells .entry)) → r ≡ rowOf name scope sort (typeNamed (now (s .entry)) typ) (portsIn (rowsIn (now (cells .entry)) n))) ⌝ }
 {
     let number = names::count(cells, n, Sought::Port);
     let of = super::type_named(s, typ);
@@ -49,7 +50,7 @@ fn port_row(
 
 // What an item declares, where the first n rows stand before it.
 pub fn declared(s: &[u8], cells: &[usize], n: usize, item: Item) -> Declaration
-    ensures { λ r. ⌜ rowsOf r ≡ map heldRow (declares (now (s .entry)) (rowsIn (now (cells .entry)) n) item) ⌝ }
+    ensures { λ r. ⌜ (Indexed (now (s .entry)) (now (cells .entry)) → rowsOf r ≡ map heldRow (declares (now (s .entry)) (rowsIn (now (cells .entry)) n) item)) ⌝ }
 {
     match item {
         Item::Constant { name, value } => {

@@ -1,5 +1,5 @@
 // What the text's names, digits and values mean among the names that are declared before them, and what an item declares.
-// Promises that every answer is what the definitions of refusals say, for every text and every table; a number is kept up to 4294967296.
+// Promises that every answer is what the definitions of refusals say, for every text and every table whose index is right for it; a number is kept up to 4294967296.
 // Builds on the table of names, the scanner, and what the rules say of a row.
 ghost use mathlib.Core.Path.{_≡_};
 ghost use Prim.Native.Nat.{min};
@@ -8,6 +8,7 @@ ghost use Rattle.refusals.specs.Values.{numberOf, typeNamed, intWord, literalTy
 ghost use Rattle.refusals.specs.Ports.{taskNamed, outputOf, portNamed, argumentNamed};
 ghost use Rattle.refusals.specs.Activities.{functionNamed};
 ghost use Rattle.names.specs.Tables.{rowsIn, scopeOf};
+ghost use Rattle.names.specs.Index.{Indexed};
 use names::Scope;
 use refusals::Row;
 use text::Literal;
@@ -58,7 +59,7 @@ pub fn number_of(s: &[u8], digits: Name) -> usize
 
 // What a name means in a scope where only this sort may stand.
 pub fn named(s: &[u8], cells: &[usize], n: usize, scope: Scope, sort: usize, name: Name) -> Row
-    ensures { λ r. ⌜ r ≡ namedRow (now (s .entry)) (rowsIn (now (cells .entry)) n) (scopeOf scope) sort name ⌝ }
+    ensures { λ r. ⌜ (Indexed (now (s .entry)) (now (cells .entry)) → r ≡ namedRow (now (s .entry)) (rowsIn (now (cells .entry)) n) (scopeOf scope) sort name) ⌝ }
 {
     let row = names::find(s, cells, n, scope, name.start, name.end);
     if row.sort == sort {
@@ -69,14 +70,14 @@ pub fn named(s: &[u8], cells: &[usize], n: usize, scope: Scope, sort: usize, nam
 
 // The task of a name.
 pub fn task_named(s: &[u8], cells: &[usize], n: usize, name: Name) -> Row
-    ensures { λ r. ⌜ r ≡ taskNamed (now (s .entry)) (rowsIn (now (cells .entry)) n) name ⌝ }
+    ensures { λ r. ⌜ (Indexed (now (s .entry)) (now (cells .entry)) → r ≡ taskNamed (now (s .entry)) (rowsIn (now (cells .entry)) n) name) ⌝ }
 {
     named(s, cells, n, Scope::Numbered(0), 3, name)
 }
 
 // The output of a name, of a task.
 pub fn output_of(s: &[u8], cells: &[usize], n: usize, task: Row, name: Name) -> Row
-    ensures { λ r. ⌜ r ≡ outputOf (now (s .entry)) (rowsIn (now (cells .entry)) n) task name ⌝ }
+    ensures { λ r. ⌜ (Indexed (now (s .entry)) (now (cells .entry)) → r ≡ outputOf (now (s .entry)) (rowsIn (now (cells .entry)) n) task name) ⌝ }
 {
     if task.sort < 7 {
         return named(s, cells, n, Scope::OfTask(task.value), 6, name);
@@ -86,7 +87,7 @@ pub fn output_of(s: &[u8], cells: &[usize], n: usize, task: Row, name: Name) -> 
 
 // What is read at a port.
 pub fn port_named(s: &[u8], cells: &[usize], n: usize, port: Port) -> Row
-    ensures { λ r. ⌜ r ≡ portNamed (now (s .entry)) (rowsIn (now (cells .entry)) n) port ⌝ }
+    ensures { λ r. ⌜ (Indexed (now (s .entry)) (now (cells .entry)) → r ≡ portNamed (now (s .entry)) (rowsIn (now (cells .entry)) n) port) ⌝ }
 {
     let first = port.first;
     if port.dotted {
@@ -99,22 +100,22 @@ pub fn port_named(s: &[u8], cells: &[usize], n: usize, port: Port) -> Row
 
 // What a guard's argument is: a constant, or what is read at a port.
 pub fn argument_named(s: &[u8], cells: &[usize], n: usize, port: Port) -> Row
-    ensures { λ r. ⌜ r ≡ argumentNamed (now (s .entry)) (rowsIn (now (cells .entry)) n) port ⌝ }
+    ensures { λ r. ⌜ (Indexed (now (s .entry)) (now (cells .entry)) → r ≡ argumentNamed (now (s .entry)) (rowsIn (now (cells .entry)) n) port) ⌝ }
 {
     if port.dotted {
         return port_named(s, cells, n, port);
     }
     let first = port.first;
-    let constant = named(s, cells, n, Scope::Numbered(0), 0, first);
-    if constant.sort < 7 {
-        return constant;
+    let row = names::find(s, cells, n, Scope::Numbered(0), first.start, first.end);
+    if row.sort < 2 {
+        return row;
     }
-    port_named(s, cells, n, port)
+    names::unknown()
 }
 
 // The type of a value as it is written.
 pub fn literal_type(s: &[u8], cells: &[usize], n: usize, literal: Literal) -> usize
-    ensures { λ r. ⌜ r ≡ literalType (now (s .entry)) (rowsIn (now (cells .entry)) n) literal ⌝ }
+    ensures { λ r. ⌜ (Indexed (now (s .entry)) (now (cells .entry)) → r ≡ literalType (now (s .entry)) (rowsIn (now (cells .entry)) n) literal) ⌝ }
 {
     match literal {
         Literal::Truth { at: _, yes: _ } => 1,
@@ -148,7 +149,7 @@ fn int_word(number: usize, minus: bool) -> usize
 
 // The word of a value as it is written, or 4294967296 where it is more.
 pub fn literal_word(s: &[u8], cells: &[usize], n: usize, literal: Literal) -> usize
-    ensures { λ r. ⌜ r ≡ min (literalWord (now (s .entry)) (rowsIn (now (cells .entry)) n) literal) 4294967296 ⌝ }
+    ensures { λ r. ⌜ (Indexed (now (s .entry)) (now (cells .entry)) → r ≡ min (literalWord (now (s .entry)) (rowsIn (now (cells .entry)) n) literal) 4294967296) ⌝ }
 {
     match literal {
         Literal::Truth { at: _, yes } => {

@@ -1,3 +1,10 @@
 pub mod Tables
 pub mod TablesLaws
 pub mod Parts
+pub mod Chains
+pub mod Index
+pub mod Hashing
+pub mod Storing
+pub mod Tallying
+pub mod Declaring
+pub mod Walking

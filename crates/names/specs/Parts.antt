@@ -1,21 +1,44 @@
--- Parts of a text as they are lent: whichever the bounds, up to the end of the text.
-use Prim.Native.Nat.{ℕ, zero, suc, _-_, min}
+-- Parts of a text, letter by letter.
+use Prim.Native.Nat.{ℕ, _+_, _≤_, _<_, min}
 use mathlib.Core.Path.{_≡_, refl, sym, _∙_}
 use mathlib.Core.List.{List, [], _∷_}
+use mathlib.Core.Bool.{true, false}
 use native.Mathlib.Omega.{arith}
-use lib.ListN.{length, take, drop}
+use borrow.Author.Tests.{eq-eqb, ne-eqb}
+use lib.ListN.{length, getD}
 use lib.Seq.{slice}
-use Rattle.scan.specs.Slices.{slice-clamp}
+use Rattle.model.specs.Bytes.{same}
+use Rattle.text.specs.WordsLaws.{slice-step}
+use Rattle.scan.specs.Slices.{slice-clamp, slice-length, slice-none}
 
-drop-take : (from to : ℕ) (s : List ℕ) → drop from (take to s) ≡ take (to - from) (drop from s)
-drop-take zero to s = let z : to - 0 ≡ to = omega arith in rw z
-drop-take (suc from) zero s = let z : 0 - suc from ≡ 0 = omega arith in rw z
-drop-take (suc from) (suc to) [] = let z : suc to - suc from ≡ to - from = omega arith in rw z (by (to - from))
-  where
-    by : (n : ℕ) → _≡_ {A = List ℕ} [] (take n [])
-    by zero = refl
-    by (suc n) = refl
-drop-take (suc from) (suc to) (x ∷ xs) = let z : suc to - suc from ≡ to - from = omega arith in rw z (drop-take from to xs)
+-- a part that is not empty stands within the text, by its length
+module _ (s : List ℕ) (i e n : ℕ) (h : n ≡ length (slice i e s)) (some : n ≡ 0 → ⊥) where
+  stop : i + n ≡ min e (length s)
+  stop = omega (arith, h, slice-length i e s)
 
-pub part-slice : (s : List ℕ) (from to : ℕ) → take (min to (length s) - from) (drop from s) ≡ slice from to s
-part-slice s from to = sym (slice-clamp from to s ∙ drop-take from (min to (length s)) s)
+  pub part-within : i + n ≤ length s
+  part-within = omega (arith, stop)
+
+  pub part-whole : slice i (i + n) s ≡ slice i e s
+  part-whole = rw stop (sym (slice-clamp i e s))
+
+-- parts without letters are the same
+pub none-same : (a b : List ℕ) → length a ≡ 0 → length b ≡ 0 → true ≡ same a b
+unfolding same
+none-same [] [] h g = refl
+none-same [] (y ∷ ys) h g = absurd (omega arith)
+none-same (x ∷ xs) b h g = absurd (omega arith)
+
+module _ (s : List ℕ) (i e k t : ℕ) where
+  pub letters-over : e ≤ i → t ≤ k → same (slice i e s) (slice k t s) ≡ true
+  unfolding same
+  letters-over h g = rw (slice-none i e s h, slice-none k t s g)
+
+  module _ (h : i < e) (g : e ≤ length s) (l : k < t) (m : t ≤ length s) where
+    pub letters-on : getD s i 0 ≡ getD s k 0 → same (slice i e s) (slice k t s) ≡ same (slice (i + 1) e s) (slice (k + 1) t s)
+    unfolding same
+    letters-on q = rw (slice-step s i e h g, slice-step s k t l m) (simp (eq-eqb _ _ q))
+
+    pub letters-out : (getD s i 0 ≡ getD s k 0 → ⊥) → same (slice i e s) (slice k t s) ≡ false
+    unfolding same
+    letters-out q = rw (slice-step s i e h g, slice-step s k t l m) (simp (ne-eqb _ _ q))

@@ -1,15 +1,22 @@
-// The table of declared names: rows of six numbers each, in one array that is lent.
-// Promises that every answer is what the definitions say of the rows that stand in the array, for every array and every number of rows.
-// Builds on the scanner, and on what a row is in the rules.
+// The table of declared names: an index and rows of eight numbers each, in one array that is lent.
+// Promises that every answer is what the definitions say of the rows that stand in the array, where its index is right, and that each declaration keeps it right.
+// Builds on the laws of parts of a text, and on what a row is in the rules.
 ghost use mathlib.Core.Path.{_≡_};
-ghost use Prim.Native.Nat.{min};
+ghost use mathlib.Core.List.{List};
+ghost use Prim.Native.Nat.{ℕ, _+_, _≤_, min};
 ghost use lib.Dec.{eqb};
-ghost use lib.ListN.{getD};
+ghost use lib.ListN.{length, getD};
 ghost use lib.Seq.{slice};
 ghost use Rattle.model.specs.Bytes.{same};
 ghost use Rattle.refusals.specs.Names.{unknown as unknownRow, isRow, find as findRow, noType, count as countOf, types};
-ghost use Rattle.names.specs.Tables.{rowAt, rowsIn, Declared, scopeOf, isOf};
+ghost use Rattle.names.specs.Tables.{rowAt, rowsIn, roomIn, scopeOf, isOf};
+ghost use Rattle.names.specs.Index.{indexed, linkAt, Indexed, Declared};
+ghost use Rattle.names.specs.Walking.{foundAt};
 use refusals::Row;
+
+mod counting;
+mod hashing;
+mod storing;
 
 // A scope by its number, or that of a task's ports by the task's.
 pub enum Scope {
@@ -45,7 +52,7 @@ fn ragged(cells: &[usize], k: usize) -> Row
             value: 0,
         };
     }
-    let first = k * 6;
+    let first = k * 8 + 512;
     let start = cell(cells, first);
     let end = cell(cells, first + 1);
     let scope = cell(cells, first + 2);
@@ -62,12 +69,22 @@ fn ragged(cells: &[usize], k: usize) -> Row
     }
 }
 
+// How many rows the array has room for.
+fn room(cells: &[usize]) -> usize
+    ensures { λ r. ⌜ r ≡ roomIn (now (cells .entry)) ⌝ }
+{
+    if cells.len() < 512 {
+        return 0;
+    }
+    (cells.len() - 512) / 8
+}
+
 // The row at a place of the table.
 pub fn row(cells: &[usize], k: usize) -> Row
     ensures { λ r. ⌜ r ≡ rowAt (now (cells .entry)) k ⌝ }
 {
-    if k < cells.len() / 6 {
-        let first = k * 6;
+    if k < room(cells) {
+        let first = k * 8 + 512;
         return Row {
             start: cells[first],
             end: cells[first + 1],
@@ -103,15 +120,45 @@ fn least(a: usize, b: usize) -> usize
     b
 }
 
+// How many letters stand from start up to end.
+fn size(s: &[u8], start: usize, end: usize) -> usize
+    ensures { λ r. ⌜ r ≡ length (slice start end (now (s .entry))) ⌝ }
+{
+    let stop = least(end, s.len());
+    if start < stop {
+        return stop - start;
+    }
+    0
+}
+
+// Whether n letters from one place on are those from another place on.
+fn same_letters(s: &[u8], start: usize, from: usize, n: usize) -> bool
+    requires { ⌜ (start + n ≤ length (now s)) × (from + n ≤ length (now s)) ⌝ }
+    ensures { λ r. ⌜ r ≡ same (slice start (start + n) (now (s .entry))) (slice from (from + n) (now (s .entry))) ⌝ }
+{
+    let mut j = 0;
+    while j < n {
+        if s[start + j] != s[from + j] {
+            return false;
+        }
+        j += 1;
+    }
+    true
+}
+
 // Whether two parts of the text are byte for byte the same.
 pub fn same_parts(s: &[u8], start: usize, end: usize, from: usize, to: usize) -> bool
     ensures { λ r. ⌜ r ≡ same (slice start end (now (s .entry))) (slice from to (now (s .entry))) ⌝ }
 {
-    let stop = least(to, s.len());
-    if stop <= from {
-        return scan::same(s, start, end, &s[0..0]);
+    let n = size(s, start, end);
+    let other = size(s, from, to);
+    if n != other {
+        return false;
     }
-    scan::same(s, start, end, &s[from..stop])
+    if n == 0 {
+        return true;
+    }
+    same_letters(s, start, from, n)
 }
 
 // Whether a number is that of a scope.
@@ -139,8 +186,8 @@ fn is_row(s: &[u8], row: Row, scope: Scope, start: usize, end: usize) -> bool
     false
 }
 
-// What the name that stands from start up to end means in a scope, among the first n rows.
-pub fn find(s: &[u8], cells: &[usize], n: usize, scope: Scope, start: usize, end: usize) -> Row
+// What the name means, where all rows are gone through.
+fn searched(s: &[u8], cells: &[usize], n: usize, scope: Scope, start: usize, end: usize) -> Row
     ensures { λ r. ⌜ r ≡ findRow (now (s .entry)) (rowsIn (now (cells .entry)) n) (scopeOf scope) (slice start end (now (s .entry))) ⌝ }
 {
     let mut k = 0;
@@ -152,6 +199,74 @@ pub fn find(s: &[u8], cells: &[usize], n: usize, scope: Scope, start: usize, end
         k += 1;
     }
     unknown()
+}
+
+// The row before that at a place in its chain, one more than its place; 0 where there is none.
+fn link_at(cells: &[usize], k: usize) -> usize
+    ensures { λ r. ⌜ r ≡ linkAt (now (cells .entry)) k ⌝ }
+{
+    if k < room(cells) {
+        return least(cells[k * 8 + 512 + 6], k);
+    }
+    if cells.len() <= k {
+        return 0;
+    }
+    least(cell(cells, k * 8 + 512 + 6), k)
+}
+
+// Whether the row at a place is of this scope and has the name that stands from start up to end.
+fn has_name(s: &[u8], cells: &[usize], k: usize, scope: Scope, start: usize, end: usize) -> bool
+    ensures { λ r. ⌜ r ≡ isRow (now (s .entry)) (scopeOf scope) (slice start end (now (s .entry))) (rowAt (now (cells .entry)) k) ⌝ }
+{
+    if k < room(cells) {
+        let first = k * 8 + 512;
+        if is_in(cells[first + 2], scope) {
+            return same_parts(s, cells[first], cells[first + 1], start, end);
+        }
+        return false;
+    }
+    let this = ragged(cells, k);
+    is_row(s, this, scope, start, end)
+}
+
+// The first row of its chain, among the first n, that has the name, one more than its place; 0 where there is none.
+fn chained(s: &[u8], cells: &[usize], n: usize, scope: Scope, start: usize, end: usize) -> usize
+    ensures { λ r. ⌜ (Indexed (now (s .entry)) (now (cells .entry)) → n ≤ indexed (now (cells .entry)) → foundAt (now (cells .entry)) r ≡ findRow (now (s .entry)) (rowsIn (now (cells .entry)) n) (scopeOf scope) (slice start end (now (s .entry)))) ⌝ }
+{
+    let chain = hashing::chain_of(s, scope, start, end);
+    let mut link = cell(cells, chain + 256);
+    let mut found = 0;
+    while 0 < link {
+        let next = link_at(cells, link - 1);
+        if link <= n {
+            if has_name(s, cells, link - 1, scope, start, end) {
+                found = link;
+            }
+        }
+        link = next;
+    }
+    found
+}
+
+// The row that was found, by one more than its place; with 0 none was.
+fn found_at(cells: &[usize], found: usize) -> Row
+    ensures { λ r. ⌜ r ≡ foundAt (now (cells .entry)) found ⌝ }
+{
+    if found == 0 {
+        return unknown();
+    }
+    row(cells, found - 1)
+}
+
+// What the name that stands from start up to end means in a scope, among the first n rows.
+pub fn find(s: &[u8], cells: &[usize], n: usize, scope: Scope, start: usize, end: usize) -> Row
+    ensures { λ r. ⌜ (Indexed (now (s .entry)) (now (cells .entry)) → r ≡ findRow (now (s .entry)) (rowsIn (now (cells .entry)) n) (scopeOf scope) (slice start end (now (s .entry)))) ⌝ }
+{
+    if n <= cell(cells, 0) {
+        let found = chained(s, cells, n, scope, start, end);
+        return found_at(cells, found);
+    }
+    searched(s, cells, n, scope, start, end)
 }
 
 // Whether a row is one of those that are counted.
@@ -181,52 +296,30 @@ fn is_of(sought: Sought, row: Row) -> bool
 
 // How many of the first n rows there are of those.
 pub fn count(cells: &[usize], n: usize, sought: Sought) -> usize
-    ensures { λ r. ⌜ r ≡ countOf (isOf sought) (rowsIn (now (cells .entry)) n) ⌝ }
+    ensures { λ r. ⌜ ((s : List ℕ) → Indexed s (now (cells .entry)) → r ≡ countOf (isOf sought) (rowsIn (now (cells .entry)) n)) ⌝ }
 {
-    let mut k = 0;
-    let mut found = 0;
-    while k < n {
-        let this = row(cells, k);
-        if is_of(sought, this) {
-            found += 1;
-        }
-        k += 1;
+    if n == cell(cells, 0) {
+        return counting::kept(cells, n, sought);
     }
-    found
+    counting::counted(cells, n, sought)
 }
 
 // The type of the one at place i of those among the first n rows.
 pub fn type_of(cells: &[usize], n: usize, sought: Sought, i: usize) -> usize
-    ensures { λ r. ⌜ r ≡ getD (types (isOf sought) (rowsIn (now (cells .entry)) n)) i noType ⌝ }
+    ensures { λ r. ⌜ ((s : List ℕ) → Indexed s (now (cells .entry)) → r ≡ getD (types (isOf sought) (rowsIn (now (cells .entry)) n)) i noType) ⌝ }
 {
-    let mut k = 0;
-    let mut left = i;
-    while k < n {
-        let this = row(cells, k);
-        if is_of(sought, this) {
-            if left == 0 {
-                return this.typ;
-            }
-            left -= 1;
-        }
-        k += 1;
-    }
-    2
+    let from = counting::first_of(cells, n, sought);
+    counting::typed_from(cells, n, sought, i, from)
 }
 
 // One row more, behind the first n, where the array has room for it; the number of rows then.
-pub fn declare(cells: &mut [usize], n: usize, row: Row) -> usize
-    ensures { λ r. ⌜ Declared (now (cells .entry)) n row (now (cells .exit)) r ⌝ }
+pub fn declare(s: &[u8], cells: &mut [usize], n: usize, row: Row) -> usize
+    ensures { λ r. ⌜ Declared (now (s .entry)) (now (cells .entry)) n row (now (cells .exit)) r ⌝ }
 {
-    if cells.len() / 6 <= n {
+    if room(cells) <= n {
         return n;
     }
-    let first = n * 6;
-    cells[first] = row.start;
-    cells[first + 1] = row.end;
-    cells[first + 2] = row.scope;
-    cells[first + 3] = row.sort;
-    cells[first + 4] = row.typ;
-    cells[first + 5] = row.value;
+    storing::enter(s, cells, n, row);
+    storing::tally(cells, n, row);
     n + 1
 }

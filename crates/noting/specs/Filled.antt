@@ -1,44 +1,37 @@
--- The table of names as a whole array: each row behind the one before it, and zeros behind the last.
-use Prim.Native.Nat.{ℕ, suc, _+_}
+-- The table of any names: its index is right, whether or not it has room for all of them.
+use Prim.Native.Nat.{ℕ, _+_}
 use native.Mathlib.Omega.{arith}
-use native.Mathlib.Nat.{add-zero}
 use mathlib.Core.Path.{_≡_, refl, _∙_}
-use mathlib.Core.List.{List, [], _∷_, _++_}
-use lib.ListN.{length, replicate, length-replicate}
+use mathlib.Core.List.{List, [], _∷_}
+use mathlib.Core.Bool.{Bool, true, false, cond}
+use borrow.Author.Tests.{ltb-true, ltb-false}
 use Rattle.refusals.specs.declared.Row.{Row}
-use Rattle.names.specs.Tables.{withRow}
+use Rattle.names.specs.Tables.{roomIn, hasRoom}
+use Rattle.names.specs.Index.{Indexed, indexed, declaredIn, Declared, emptyTable, enteredIn, tableIn}
+use Rattle.names.specs.Declaring.{declared-indexed, declared-all, empty-none, empty-indexed}
 
--- the table without names: room for 424 rows of six numbers
-unfoldable pub emptyTable : List ℕ
-emptyTable = replicate 2544 0
+-- the index is right, and where there is room for a row at place k it has the rows before that
+record Ready (s cells : List ℕ) (k : ℕ) : Type 0 where
+  index : Indexed s cells
+  has-all : hasRoom cells k ≡ true → indexed cells ≡ k
 
--- an array with these rows from place k on
-unfoldable pub written : List ℕ → ℕ → List Row → List ℕ
-written cells k [] = cells
-written cells k (row ∷ rows) = written (withRow cells k row) (k + 1) rows
+ready-more : {s cells : List ℕ} {k : ℕ} (row : Row) → Ready s cells k → Ready s (declaredIn s cells k row) (k + 1)
+ready-more {s} {cells} {k} row w = by (hasRoom cells k) refl
+  where
+    told : Declared s cells k row (declaredIn s cells k row) (cond (hasRoom cells k) (k + 1) k)
+    told = record { array = refl; rows = refl }
 
--- the table of these names
-unfoldable pub tableOf : List Row → List ℕ
-tableOf rows = written emptyTable 0 rows
+    by : (b : Bool) → hasRoom cells k ≡ b → Ready s (declaredIn s cells k row) (k + 1)
+    by true e = record { index = declared-indexed told e (w .index) (w .has-all e); has-all = λ h. declared-all told e ∙ rw e }
+    by false e =
+        let same : declaredIn s cells k row ≡ cells = rw e in
+        record { index = rw same (w .index); has-all = λ h. absurd (omega (arith, ltb-false k (roomIn cells) e, ltb-true (k + 1) (roomIn cells) (rw same at h))) }
 
-pub empty-long : length emptyTable ≡ 2544
-unfolding emptyTable
-empty-long = length-replicate {A = ℕ} 2544 0
+entered-ready : (s : List ℕ) (rows : List Row) (cells : List ℕ) (k : ℕ) → Ready s cells k → Indexed s (enteredIn s cells k rows)
+unfolding enteredIn
+entered-ready s [] cells k w = w .index
+entered-ready s (row ∷ rows) cells k w = entered-ready s rows (declaredIn s cells k row) (k + 1) (ready-more row w)
 
-pub table-none : tableOf [] ≡ emptyTable
-unfolding tableOf written
-table-none = refl
-
-written-more : (cells : List ℕ) (k : ℕ) (rows : List Row) (row : Row) → written cells k (rows ++ (row ∷ [])) ≡ withRow (written cells k rows) (k + length rows) row
-unfolding written
-written-more cells k [] row = rw (add-zero k)
-written-more cells k (other ∷ rows) row =
-    let e : k + 1 + length rows ≡ k + suc (length rows) = omega arith in
-    written-more (withRow cells k other) (k + 1) rows row ∙ rw e
-
--- one name more
-pub table-more : (rows : List Row) (row : Row) → tableOf (rows ++ (row ∷ [])) ≡ withRow (tableOf rows) (length rows) row
-unfolding tableOf
-table-more rows row =
-    let e : 0 + length rows ≡ length rows = omega arith in
-    written-more emptyTable 0 rows row ∙ rw e
+pub table-indexed : (s : List ℕ) (rows : List Row) → Indexed s (tableIn s rows)
+unfolding tableIn
+table-indexed s rows = entered-ready s rows emptyTable 0 (record { index = empty-indexed s; has-all = λ h. empty-none })

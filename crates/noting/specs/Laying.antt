@@ -10,7 +10,7 @@ use Rattle.text.specs.declared.Item.the-variants as I
 use Rattle.refusals.specs.declared.Row.{Row}
 use Rattle.refusals.specs.Ports.{taskNamed}
 use Rattle.refusals.specs.Activities.{actuatorNamed}
-use Rattle.names.specs.Tables.{Declared}
+use Rattle.names.specs.Index.{Declared}
 use Rattle.meanings.specs.declared.declaring.Declaration.{Declaration}
 use Rattle.meanings.specs.declared.declaring.Declaration.the-variants.{Nothing, One}
 use Rattle.noting.specs.declared.Known.{Known}
@@ -30,9 +30,9 @@ pub record Laid (s : List ℕ) (rows : List Row) (known : Known) (item : Item) (
   pub aimed : aimsThen ≡ set aims (known .updates) number
 
 -- the table and the number of its rows behind what an item declares
-abbrev pub Entered : List ℕ → ℕ → Declaration → List ℕ → ℕ → Type 0
-Entered cells n Nothing after count = (after ≡ cells) × (count ≡ n)
-Entered cells n (One row) after count = Declared cells n row after count
+abbrev pub Entered : List ℕ → List ℕ → ℕ → Declaration → List ℕ → ℕ → Type 0
+Entered s cells n Nothing after count = (after ≡ cells) × (count ≡ n)
+Entered s cells n (One row) after count = Declared s cells n row after count
 
 module _ (s : List ℕ) (rows : List Row) {item : Item} {row : Row} where
   pub invoke-told : {name other : Name} {arguments others : ℕ} → item ≡ I.Invoke name arguments → row ≡ taskNamed s rows name → item ≡ I.Invoke other others → row .value ≡ taskNamed s rows other .value

@@ -1,5 +1,5 @@
 -- The table of names in step with the names that are known: as long as no rule is broken it has room for all of them.
-use Prim.Native.Nat.{ℕ, zero, suc, _+_, _/_, _≤_, _<_, min}
+use Prim.Native.Nat.{ℕ, zero, suc, _+_, _≤_, _<_, min}
 use native.Mathlib.Omega.{arith}
 use mathlib.Core.Path.{_≡_, refl, sym, ap, _∙_}
 use mathlib.Core.List.{List, [], _∷_, _++_, append-nil, map}
@@ -23,26 +23,38 @@ use Rattle.refusals.specs.Rules.{Env, rules}
 use Rattle.timing.specs.SlotLaws.{Each}
 use Rattle.accepted.specs.RowsFit.{RowFits, RowsFit, count-next, count-same}
 use Rattle.accepted.specs.RowsRoom.{roomFor, Roomy, port-room}
-use Rattle.names.specs.Tables.{rowsIn, hasRoom}
-use Rattle.names.specs.TablesLaws.{length-rows, declared-length, declared-rows}
+use Rattle.names.specs.Tables.{rowsFrom, rowsIn, roomIn, hasRoom}
+use Rattle.names.specs.TablesLaws.{length-rows}
+use Rattle.names.specs.Index.{Indexed, emptyTable, tableIn}
+use Rattle.names.specs.Declaring.{declared-length, declared-rows, empty-long, table-none, table-more}
 use Rattle.meanings.specs.Held.{rowsOf, heldRow}
 use Rattle.meanings.specs.declared.declaring.Declaration.{Declaration}
 use Rattle.meanings.specs.declared.declaring.Declaration.the-variants.{Nothing, One}
 use Rattle.noting.specs.Known.{rowRoom}
 use Rattle.noting.specs.Laying.{Entered}
-use Rattle.noting.specs.Filled.{tableOf, table-more}
+use Rattle.noting.specs.Filled.{table-indexed}
 
--- the first n rows of the array are the names that are known
-pub record Rowed (rows : List Row) (cells : List ℕ) (n : ℕ) : Type 0 where
+-- the array is the table of the names that are known, and its first n rows are they
+pub record Rowed (s : List ℕ) (rows : List Row) (cells : List ℕ) (n : ℕ) : Type 0 where
   pub same : rowsIn cells n ≡ rows
-  pub table : cells ≡ tableOf rows
-  pub long : length cells ≡ 2544
+  pub table : cells ≡ tableIn s rows
+  pub long : length cells ≡ 3904
   pub roomy : Roomy rows
   pub fits : RowsFit rows
   pub sorted : Sorted rows
 
-pub rowed-size : {rows : List Row} {cells : List ℕ} {n : ℕ} → Rowed rows cells n → length rows ≡ n
-rowed-size {rows} {cells} {n} w = ap (λ (l : List Row). length l) (sym (w .same)) ∙ length-rows n cells 0
+-- its index is right
+pub rowed-index : {s : List ℕ} {rows : List Row} {cells : List ℕ} {n : ℕ} → Rowed s rows cells n → Indexed s cells
+rowed-index {s} {rows} w = rw (w .table) (table-indexed s rows)
+
+-- at the beginning of a text
+pub rowed-first : (s : List ℕ) → Rowed s [] emptyTable 0
+unfolding rowsFrom count
+rowed-first s =
+    record { same = refl; table = sym (table-none s); long = empty-long; roomy = record { room = λ sort. omega arith }; fits = tt; sorted = tt }
+
+pub rowed-size : {s : List ℕ} {rows : List Row} {cells : List ℕ} {n : ℕ} → Rowed s rows cells n → length rows ≡ n
+rowed-size {s} {rows} {cells} {n} w = ap (λ (l : List Row). length l) (sym (w .same)) ∙ length-rows n cells 0
 
 -- ---- room for one more
 
@@ -87,8 +99,8 @@ Joined rows (row ∷ more) = (count (isSort (row .sort)) rows < roomFor (row .so
 all-room : (rows : List Row) → Roomy rows → Sorted rows → length rows ≤ rowRoom
 all-room rows r h = omega (arith, length-sorts rows h, r .room 0, r .room 1, r .room 2, r .room 3, r .room 4, r .room 5, r .room 6)
 
-pub rows-room : {rows : List Row} {cells : List ℕ} {n : ℕ} → Rowed rows cells n → length rows ≤ rowRoom
-rows-room {rows} w = all-room rows (w .roomy) (w .sorted)
+pub rows-room : {s : List ℕ} {rows : List Row} {cells : List ℕ} {n : ℕ} → Rowed s rows cells n → length rows ≤ rowRoom
+rows-room {s} {rows} w = all-room rows (w .roomy) (w .sorted)
 
 room-one : (rows : List Row) (row : Row) → Roomy rows → count (isSort (row .sort)) rows < roomFor (row .sort) → Roomy (rows ++ (row ∷ []))
 room-one rows row h l = record { room = λ sort. by sort (eqb (row .sort) sort) refl }
@@ -146,24 +158,23 @@ held-same rows row f = by (eqb (row .sort) constantSort) refl
         let z : min (row .value) 4294967296 ≡ row .value = omega arith in
         simp (e, z)
 
-pub rowed-on : {rows : List Row} {cells : List ℕ} {n : ℕ} → Rowed rows cells n → (more : List Row) → RowsFit (rows ++ more) → Sorted (rows ++ more) → Joined rows more
-    → (declaration : Declaration) → rowsOf declaration ≡ map heldRow more → (after : List ℕ) (count : ℕ) → Entered cells n declaration after count → Rowed (rows ++ more) after count
-rowed-on {rows} {cells} {n} w [] f h j Nothing e after count d =
-    record { same = rw (d .0, d .1) (w .same) ∙ sym (append-nil rows); table = d .0 ∙ w .table ∙ rw (append-nil rows); long = rw (d .0) (w .long); roomy = rw (append-nil rows) (w .roomy); fits = f; sorted = h }
+pub rowed-on : {s : List ℕ} {rows : List Row} {cells : List ℕ} {n : ℕ} → Rowed s rows cells n → (more : List Row) → RowsFit (rows ++ more) → Sorted (rows ++ more) → Joined rows more
+    → (declaration : Declaration) → rowsOf declaration ≡ map heldRow more → (after : List ℕ) (count : ℕ) → Entered s cells n declaration after count → Rowed s (rows ++ more) after count
+rowed-on {s} {rows} {cells} {n} w [] f h j Nothing e after count d = rw (append-nil rows, d .0, d .1) w
 rowed-on w [] f h j (One row) e after count d = let z : _≡_ {A = ℕ} 0 1 = cc in absurd (omega arith)
 rowed-on w (row ∷ more) f h j Nothing e after count d = let z : _≡_ {A = ℕ} 0 1 = cc in absurd (omega arith)
-rowed-on {rows} {cells} {n} w (row ∷ more) f h j (One other) e after count d = rw (j .1) (one (rw (j .1) at f) (rw (j .1) at h))
+rowed-on {s} {rows} {cells} {n} w (row ∷ more) f h j (One other) e after count d = rw (j .1) (one (rw (j .1) at f) (rw (j .1) at h))
   where
-    one : RowsFit (rows ++ (row ∷ [])) → Sorted (rows ++ (row ∷ [])) → Rowed (rows ++ (row ∷ [])) after count
+    one : RowsFit (rows ++ (row ∷ [])) → Sorted (rows ++ (row ∷ [])) → Rowed s (rows ++ (row ∷ [])) after count
     one g k =
         let told : other ≡ heldRow row = cc in
         let is : other ≡ row = told ∙ held-same (rows ++ (row ∷ [])) row (each-last (RowFits (rows ++ (row ∷ []))) rows row g) in
         let size = rowed-size w in
         let roomy = room-one rows row (w .roomy) (j .0) in
-        let room : hasRoom cells n ≡ true = lt-ltb n (length cells / 6) (omega (arith, w .long, all-room (rows ++ (row ∷ [])) roomy k, length-append rows (row ∷ []), size)) in
+        let room : hasRoom cells n ≡ true = lt-ltb n (roomIn cells) (omega (arith, w .long, all-room (rows ++ (row ∷ [])) roomy k, length-append rows (row ∷ []), size)) in
         record {
           same = declared-rows d room ∙ rw (w .same, is);
-          table = d .array ∙ rw (room, is, w .table, ← size) (sym (table-more rows row));
+          table = d .array ∙ rw (is, w .table, ← size) (sym (table-more s rows row));
           long = declared-length d ∙ w .long;
           roomy = roomy;
           fits = g;

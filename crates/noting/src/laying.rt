@@ -2,6 +2,7 @@
 ghost use mathlib.Core.Path.{_≡_};
 ghost use lib.ListN.{set};
 ghost use Rattle.names.specs.Tables.{rowsIn};
+ghost use Rattle.names.specs.Index.{Indexed};
 ghost use Rattle.noting.specs.Laying.{ActsOn, Laid, Entered};
 use super::Known;
 use meanings::declaring::Declaration;
@@ -19,7 +20,7 @@ fn put(numbers: &mut [usize], at: usize, number: usize)
 
 // The number of the task that an item invokes, or of the actuator that it updates; 0 for every other item.
 fn acts_on(s: &[u8], cells: &[usize], n: usize, item: Item) -> usize
-    ensures { λ r. ⌜ ActsOn (now (s .entry)) (rowsIn (now (cells .entry)) n) item r ⌝ }
+    ensures { λ r. ⌜ (Indexed (now (s .entry)) (now (cells .entry)) → ActsOn (now (s .entry)) (rowsIn (now (cells .entry)) n) item r) ⌝ }
 {
     if let Item::Invoke { task, count: _ } = item {
         let row = meanings::task_named(s, cells, n, task);
@@ -46,7 +47,7 @@ pub fn laid(
     known: Known,
     item: Item,
 )
-    ensures { λ r. ⌜ Laid (now (s .entry)) (rowsIn (now (cells .entry)) n) known item (now (rates .entry)) (now (tasks .entry)) (now (aims .entry)) (now (rates .exit)) (now (tasks .exit)) (now (aims .exit)) ⌝ }
+    ensures { λ r. ⌜ (Indexed (now (s .entry)) (now (cells .entry)) → Laid (now (s .entry)) (rowsIn (now (cells .entry)) n) known item (now (rates .entry)) (now (tasks .entry)) (now (aims .entry)) (now (rates .exit)) (now (tasks .exit)) (now (aims .exit))) ⌝ }
 {
     let number = acts_on(s, cells, n, item);
     put(rates, known.calls, known.frequency);
@@ -55,11 +56,11 @@ pub fn laid(
 }
 
 // The table with what an item declares; the number of its rows then.
-pub fn entered(cells: &mut [usize], n: usize, declaration: Declaration) -> usize
-    ensures { λ r. ⌜ Entered (now (cells .entry)) n declaration (now (cells .exit)) r ⌝ }
+pub fn entered(s: &[u8], cells: &mut [usize], n: usize, declaration: Declaration) -> usize
+    ensures { λ r. ⌜ Entered (now (s .entry)) (now (cells .entry)) n declaration (now (cells .exit)) r ⌝ }
 {
     match declaration {
         Declaration::Nothing => n,
-        Declaration::One(row) => names::declare(cells, n, row),
+        Declaration::One(row) => names::declare(s, cells, n, row),
     }
 }

@@ -1,11 +1,12 @@
 // What the judging pass knows at a place of the text beside the table of names, and how each item adds to it.
-// Promises that it grows by each item as its definitions say, for every text, table and item; their laws tie it to the module so far.
+// Promises that it grows by each item as its definitions say, for every text, every table whose index is right for it, and every item; their laws tie it to the module so far.
 // Builds on what names mean, on the rules of activities, and on the table of names.
 ghost use mathlib.Core.Path.{_≡_};
 ghost use mathlib.Core.Bool.{_||_};
 ghost use Prim.Native.Nat.{_-_};
 ghost use Rattle.activities.specs.Operands.{settled as settledType};
 ghost use Rattle.names.specs.Tables.{rowsIn};
+ghost use Rattle.names.specs.Index.{Indexed};
 ghost use Rattle.noting.specs.Known.{nothingKnown, oneMore, begunBy, headedBy, guardedBy, operatedBy, invokedBy, arguedBy, updatedBy, switchedBy, notedBy};
 use activities::operands;
 use text::Item;
@@ -124,7 +125,7 @@ fn settled(typ: usize, wanted: usize) -> usize
 
 // An operand of a guard: what is left open has its type.
 fn operated(s: &[u8], cells: &[usize], n: usize, known: Known, port: Port) -> Known
-    ensures { λ r. ⌜ r ≡ operatedBy (now (s .entry)) (rowsIn (now (cells .entry)) n) known port ⌝ }
+    ensures { λ r. ⌜ (Indexed (now (s .entry)) (now (cells .entry)) → r ≡ operatedBy (now (s .entry)) (rowsIn (now (cells .entry)) n) known port) ⌝ }
 {
     let row = meanings::argument_named(s, cells, n, port);
     let operand = settled(row.typ, known.operand);
@@ -137,7 +138,7 @@ fn operated(s: &[u8], cells: &[usize], n: usize, known: Known, port: Port) -> Kn
 
 // A task is invoked, whose arguments come next.
 fn invoked(s: &[u8], cells: &[usize], n: usize, known: Known, name: Name) -> Known
-    ensures { λ r. ⌜ r ≡ invokedBy (now (s .entry)) (rowsIn (now (cells .entry)) n) known name ⌝ }
+    ensures { λ r. ⌜ (Indexed (now (s .entry)) (now (cells .entry)) → r ≡ invokedBy (now (s .entry)) (rowsIn (now (cells .entry)) n) known name) ⌝ }
 {
     let task = meanings::task_named(s, cells, n, name);
     let calls = more(32, known.calls);
@@ -184,7 +185,7 @@ fn switched(known: Known) -> Known
 
 // What is known behind an item.
 pub fn noted(s: &[u8], cells: &[usize], n: usize, known: Known, item: Item) -> Known
-    ensures { λ r. ⌜ r ≡ notedBy (now (s .entry)) (rowsIn (now (cells .entry)) n) known item ⌝ }
+    ensures { λ r. ⌜ (Indexed (now (s .entry)) (now (cells .entry)) → r ≡ notedBy (now (s .entry)) (rowsIn (now (cells .entry)) n) known item) ⌝ }
 {
     match item {
         Item::ModeBegin {

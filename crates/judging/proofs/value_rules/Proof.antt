@@ -13,7 +13,7 @@ clash-requires c κs = search needs
 
 returns : tie.Need-returns
 unfolding first valueRules
-returns c = rw (c .before .before .before .literal .given .1) (simp (sym (c .before .clash .ensures) ∙ (c .if1 .taken)))
+returns c ix = rw (c .before .before .before .literal .given .1) (simp (sym (c .before .clash .ensures) ∙ (c .if1 .taken)))
 
 enum-known-literal-2 : tie.Need-enum-known-literal-2
 enum-known-literal-2 c = search needs
@@ -32,15 +32,15 @@ use-rules-requires c κs = search needs
 
 returns-2 : tie.Need-returns-2
 unfolding first valueRules
-returns-2 c = rw (c .before .before .before .literal .given .1) (simp (sym (c .before .clash .ensures) ∙ (c .if1 .left)))
+returns-2 c ix = rw (c .before .before .before .literal .given .1) (simp (sym (c .before .clash .ensures) ∙ (c .if1 .left)))
 
 returns-3 : tie.Need-returns-3
 unfolding valueRules
-returns-3 c = rw (c .before .before .literal2 .given .1) (c .number-rules .ensures)
+returns-3 c ix = rw (c .before .before .literal2 .given .1) (c .number-rules .ensures)
 
 returns-4 : tie.Need-returns-4
 unfolding valueRules
-returns-4 c = rw (c .before .before .before .literal3 .given .1) ((c .use-rules .ensures) ∙ rw (c .before .named .ensures))
+returns-4 c ix = rw (c .before .before .before .literal3 .given .1) ((c .use-rules .ensures) ∙ rw (c .before .named .ensures ix))
 
 pub value-rules-spec : {M : Type 1} → statement M
 value-rules-spec =

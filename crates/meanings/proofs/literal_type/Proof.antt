@@ -17,13 +17,13 @@ named-requires : tie.Need-named-requires
 named-requires c κs = search needs
 
 returns : tie.Need-returns
-returns c = search needs
+returns c ix = search needs
 
 returns-2 : tie.Need-returns-2
-returns-2 c = search needs
+returns-2 c ix = search needs
 
 returns-3 : tie.Need-returns-3
-returns-3 c = rw (c .before .before .literal .given .1) (ap (λ (row : Row). row .typ) (c .named .ensures))
+returns-3 c ix = rw (c .before .before .literal .given .1) (ap (λ (row : Row). row .typ) (c .named .ensures ix))
 
 pub literal-type-spec : {M : Type 1} → statement M
 literal-type-spec =

@@ -10,14 +10,14 @@ find-requires c κs = search needs
 
 returns : tie.Need-returns
 unfolding named
-returns c = simp (← (c .before .before .find .ensures), eq-eqb _ _ (c .if1 .taken))
+returns c ix = simp (← (c .before .before .find .ensures ix), eq-eqb _ _ (c .if1 .taken))
 
 unknown-requires : tie.Need-unknown-requires
 unknown-requires c κs = search needs
 
 returns-2 : tie.Need-returns-2
 unfolding named
-returns-2 c = (c .unknown .ensures) ∙ simp (← (c .before .before .before .find .ensures), ne-eqb _ _ (c .before .if1 .left))
+returns-2 c ix = (c .unknown .ensures) ∙ simp (← (c .before .before .before .find .ensures ix), ne-eqb _ _ (c .before .if1 .left))
 
 pub named-spec : {M : Type 1} → statement M
 named-spec = tie.close (tie.spec find-requires returns unknown-requires returns-2)

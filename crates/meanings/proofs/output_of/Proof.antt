@@ -10,14 +10,14 @@ named-requires c κs = search needs
 
 returns : tie.Need-returns
 unfolding outputOf
-returns c = (c .named .ensures) ∙ simp (lt-ltb _ _ (c .before .if1 .taken))
+returns c ix = (c .named .ensures ix) ∙ simp (lt-ltb _ _ (c .before .if1 .taken))
 
 unknown-requires : tie.Need-unknown-requires
 unknown-requires c κs = search needs
 
 returns-2 : tie.Need-returns-2
 unfolding outputOf
-returns-2 c = (c .unknown .ensures) ∙ simp (le-ltb _ _ (c .before .if1 .left))
+returns-2 c ix = (c .unknown .ensures) ∙ simp (le-ltb _ _ (c .before .if1 .left))
 
 pub output-of-spec : {M : Type 1} → statement M
 output-of-spec = tie.close (tie.spec named-requires returns unknown-requires returns-2)

@@ -12,14 +12,14 @@ output-of-requires c κs = search needs
 
 returns : tie.Need-returns
 unfolding portNamed
-returns c = (c .output-of .ensures) ∙ simp ((c .before .before .task-named .ensures), (c .before .before .before .if1 .taken))
+returns c ix = (c .output-of .ensures ix) ∙ simp ((c .before .before .task-named .ensures ix), (c .before .before .before .if1 .taken))
 
 named-requires : tie.Need-named-requires
 named-requires c κs = search needs
 
 returns-2 : tie.Need-returns-2
 unfolding portNamed
-returns-2 c = (c .named .ensures) ∙ simp (c .before .if1 .left)
+returns-2 c ix = (c .named .ensures ix) ∙ simp (c .before .if1 .left)
 
 pub port-named-spec : {M : Type 1} → statement M
 port-named-spec =

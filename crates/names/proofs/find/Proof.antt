@@ -1,72 +1,27 @@
-use Prim.Native.Nat.{ℕ, _+_, _-_, _≤_}
-use mathlib.Core.Path.{_≡_, refl, sym, ap, _∙_}
-use Rattle.names.specs.Tables.{rowsIn, scopeOf}
-use Prim.Native.Nat.{_-_, _≤_}
-use mathlib.Core.Path.{_≡_, sym, ap, _∙_}
-use denote.Ref.{now}
-use lib.Seq.{slice}
-use Rattle.refusals.specs.Names.{find, isRow}
-use Rattle.names.specs.Tables.{rowsIn}
-use Rattle.names.specs.TablesLaws.{rowsUp}
-use Rattle.names.specs.TablesLaws as law
+use mathlib.Core.Path.{_∙_}
 use borrow.Author.Needs.{needs}
-use native.Mathlib.Omega.{arith}
 use Rattle.names.proofs.find.Statement.{statement}
 use Rattle.names.proofs.find.Tie as tie
 
-abbrev Inv-loop : tie.InvT-loop
-Inv-loop s cells n scope start end k₀ k = (k ≤ n) × (find s (rowsIn cells n) (scopeOf scope) (slice start end s) ≡ find s (rowsUp cells k n) (scopeOf scope) (slice start end s))
+cell-requires : tie.Need-cell-requires
+cell-requires c κs = search needs
 
-abbrev μ-loop : tie.MeasureT-loop
-μ-loop s cells n scope start end k₀ k = n - k
+chained-requires : tie.Need-chained-requires
+chained-requires c κs = search needs
 
-loop-holds : tie.Need-loop-holds Inv-loop μ-loop
-loop-holds c = let args = (c .before .before .args) in
-    (omega arith, ap (λ l. find (now (args .s)) l (scopeOf (args .scope)) (slice (args .start) (args .end) (now (args .s)))) (law.up-begin (now (args .cells)) (args .n)))
+found-at-requires : tie.Need-found-at-requires
+found-at-requires c κs = search needs
 
-row-requires : tie.Need-row-requires Inv-loop μ-loop
-row-requires c κs = search needs
+returns : tie.Need-returns
+returns c ix = (c .found-at .ensures) ∙ (c .before .chained .ensures ix (rw (c .before .before .before .cell .ensures) at (c .before .before .if1 .taken)))
 
-is-row-requires : tie.Need-is-row-requires Inv-loop μ-loop
-is-row-requires c κs = search needs
+searched-requires : tie.Need-searched-requires
+searched-requires c κs = search needs
 
-returns : tie.Need-returns Inv-loop μ-loop
-returns c = let args = (c .before .before .before .before .before .before .before .args) in
-    let word = slice (args .start) (args .end) (now (args .s)) in
-    let told = (c .before .is-row .ensures) ∙ ap (isRow (now (args .s)) (scopeOf (args .scope)) word) (c .before .before .row .ensures) in
-    (c .before .before .row .ensures) ∙ sym ((c .before .before .before .before .loop .inv .1) ∙ law.find-out (now (args .s)) (now (args .cells)) (c .before .before .before .before .loop .k) (args .n) (scopeOf (args .scope)) word (c .before .before .before .loop-test .taken) (sym told ∙ (c .if1 .taken)))
-
-add-k : tie.Need-add-k Inv-loop μ-loop
-add-k c = search needs
-
-loop-less : tie.Need-loop-less Inv-loop μ-loop
-loop-less c = search needs
-
-loop-again : tie.Need-loop-again Inv-loop μ-loop
-loop-again c = let args = (c .before .before .before .before .before .before .before .args) in
-    let word = slice (args .start) (args .end) (now (args .s)) in
-    let told = (c .before .is-row .ensures) ∙ ap (isRow (now (args .s)) (scopeOf (args .scope)) word) (c .before .before .row .ensures) in
-    (omega arith, (c .before .before .before .before .loop .inv .1) ∙ law.find-on (now (args .s)) (now (args .cells)) (c .before .before .before .before .loop .k) (args .n) (scopeOf (args .scope)) word (c .before .before .before .loop-test .taken) (sym told ∙ (c .if1 .left)))
-
-unknown-requires : tie.Need-unknown-requires Inv-loop μ-loop
-unknown-requires c κs = search needs
-
-returns-2 : tie.Need-returns-2 Inv-loop μ-loop
-returns-2 c = let args = (c .before .before .before .before .before .args) in
-    (c .unknown .ensures) ∙ sym ((c .before .before .loop .inv .1) ∙ law.find-end (now (args .s)) (now (args .cells)) (c .before .before .loop .k) (args .n) (scopeOf (args .scope)) (slice (args .start) (args .end) (now (args .s))) (c .before .loop-test .left))
+returns-2 : tie.Need-returns-2
+returns-2 c = search needs
 
 pub find-spec : {M : Type 1} → statement M
 find-spec =
     tie.close
-    (tie.spec
-    Inv-loop
-    μ-loop
-    loop-holds
-    row-requires
-    is-row-requires
-    returns
-    add-k
-    loop-less
-    loop-again
-    unknown-requires
-    returns-2)
+    (tie.spec cell-requires chained-requires found-at-requires returns searched-requires returns-2)

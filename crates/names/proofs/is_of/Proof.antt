@@ -1,58 +1,42 @@
 use mathlib.Core.Path.{sym, _∙_}
-use borrow.Author.Tests.{eq-eqb, ne-eqb}
-use native.Mathlib.Omega.{arith}
+use borrow.Author.Tests.{ne-eqb}
 use borrow.Author.Needs.{needs}
 use Rattle.names.proofs.is_of.Statement.{statement}
 use Rattle.names.proofs.is_of.Tie as tie
-use Rattle.names.proofs.is_of.Reads as reads
-use Rattle.names.proofs.is_of.Lts as lts
-use Rattle.names.proofs.is_in.Reads as is-in-reads
 
--- src/lib.rt:144:22
 enum-known-sought : tie.Need-enum-known-sought
 enum-known-sought c = search needs
 
--- src/lib.rt:146:17
 enum-told : tie.Need-enum-told
 enum-told c = search needs
 
--- src/lib.rt:155:26
 enum-known-sought-2 : tie.Need-enum-known-sought-2
 enum-known-sought-2 c = search needs
 
--- src/lib.rt:156:16
 is-in-requires : tie.Need-is-in-requires
 is-in-requires c κs = search needs
 
--- src/lib.rt:157:17
 returns : tie.Need-returns
 returns c = rw (c .before .before .before .before .sought2 .given .1) (simp (sym (c .before .before .is-in .ensures) ∙ (c .before .if1 .taken)))
 
--- src/lib.rt:140:1
 returns-2 : tie.Need-returns-2
 returns-2 c = rw (c .before .before .sought .given .1)
 
--- src/lib.rt:140:1
 returns-3 : tie.Need-returns-3
 returns-3 c = rw (c .before .enum-told .given .1) (simp (c .match2 .keys1))
 
--- src/lib.rt:140:1
 returns-4 : tie.Need-returns-4
 returns-4 c = rw (c .before .enum-told .given .1) (simp (c .match2 .keys2))
 
--- src/lib.rt:140:1
 returns-5 : tie.Need-returns-5
 returns-5 c = rw (c .before .enum-told .given .1) (simp (c .match2 .keys3))
 
--- src/lib.rt:140:1
 returns-6 : tie.Need-returns-6
 returns-6 c = rw (c .before .enum-told .given .1) (simp (c .match2 .keys4))
 
--- src/lib.rt:140:1
 returns-7 : tie.Need-returns-7
 returns-7 c = rw (c .before .enum-told .given .1) (simp (ne-eqb _ _ (c .match2 .rest .0 .0 .0 .1), ne-eqb _ _ (c .match2 .rest .0 .0 .1), ne-eqb _ _ (c .match2 .rest .0 .1), ne-eqb _ _ (c .match2 .rest .1)))
 
--- src/lib.rt:140:1
 returns-8 : tie.Need-returns-8
 returns-8 c = rw (c .before .before .before .sought2 .given .1) (simp (sym (c .before .is-in .ensures) ∙ (c .if1 .left)))
 

@@ -11,6 +11,9 @@ returns c = law.row-out (now (c .before .before .args .cells)) (c .before .befor
 mul-first : tie.Need-mul-first
 mul-first c = search needs
 
+add-first : tie.Need-add-first
+add-first c = search needs
+
 cell-requires : tie.Need-cell-requires
 cell-requires c κs = search needs
 
@@ -54,6 +57,7 @@ ragged-spec =
     (tie.spec
     returns
     mul-first
+    add-first
     cell-requires
     add-cell
     cell-requires-2

@@ -4,59 +4,65 @@ use borrow.Author.Needs.{needs}
 use Rattle.names.proofs.row.Statement.{statement}
 use Rattle.names.proofs.row.Tie as tie
 
+room-requires : tie.Need-room-requires
+room-requires c κs = search needs
+
 mul-first : tie.Need-mul-first
 mul-first c = search needs
 
-mul-t7 : tie.Need-mul-t7
-mul-t7 c = search needs
+add-first : tie.Need-add-first
+add-first c = search needs
 
-shared-slice-read-t9 : tie.Need-shared-slice-read-t9
-shared-slice-read-t9 c = search needs
+mul-t6 : tie.Need-mul-t6
+mul-t6 c = search needs
 
-add-t10 : tie.Need-add-t10
-add-t10 c = search needs
+shared-slice-read-t8 : tie.Need-shared-slice-read-t8
+shared-slice-read-t8 c = search needs
 
-mul-t11 : tie.Need-mul-t11
-mul-t11 c = search needs
+add-t9 : tie.Need-add-t9
+add-t9 c = search needs
 
-shared-slice-read-t13 : tie.Need-shared-slice-read-t13
-shared-slice-read-t13 c = search needs
+mul-t10 : tie.Need-mul-t10
+mul-t10 c = search needs
 
-add-t14 : tie.Need-add-t14
-add-t14 c = search needs
+shared-slice-read-t12 : tie.Need-shared-slice-read-t12
+shared-slice-read-t12 c = search needs
 
-mul-t15 : tie.Need-mul-t15
-mul-t15 c = search needs
+add-t13 : tie.Need-add-t13
+add-t13 c = search needs
 
-shared-slice-read-t17 : tie.Need-shared-slice-read-t17
-shared-slice-read-t17 c = search needs
+mul-t14 : tie.Need-mul-t14
+mul-t14 c = search needs
 
-add-t18 : tie.Need-add-t18
-add-t18 c = search needs
+shared-slice-read-t16 : tie.Need-shared-slice-read-t16
+shared-slice-read-t16 c = search needs
 
-mul-t19 : tie.Need-mul-t19
-mul-t19 c = search needs
+add-t17 : tie.Need-add-t17
+add-t17 c = search needs
 
-shared-slice-read-t21 : tie.Need-shared-slice-read-t21
-shared-slice-read-t21 c = search needs
+mul-t18 : tie.Need-mul-t18
+mul-t18 c = search needs
 
-add-t22 : tie.Need-add-t22
-add-t22 c = search needs
+shared-slice-read-t20 : tie.Need-shared-slice-read-t20
+shared-slice-read-t20 c = search needs
 
-mul-t23 : tie.Need-mul-t23
-mul-t23 c = search needs
+add-t21 : tie.Need-add-t21
+add-t21 c = search needs
 
-shared-slice-read-t25 : tie.Need-shared-slice-read-t25
-shared-slice-read-t25 c = search needs
+mul-t22 : tie.Need-mul-t22
+mul-t22 c = search needs
 
-add-t26 : tie.Need-add-t26
-add-t26 c = search needs
+shared-slice-read-t24 : tie.Need-shared-slice-read-t24
+shared-slice-read-t24 c = search needs
 
-mul-t27 : tie.Need-mul-t27
-mul-t27 c = search needs
+add-t25 : tie.Need-add-t25
+add-t25 c = search needs
 
-shared-slice-read-t29 : tie.Need-shared-slice-read-t29
-shared-slice-read-t29 c = search needs
+mul-t26 : tie.Need-mul-t26
+mul-t26 c = search needs
+
+shared-slice-read-t28 : tie.Need-shared-slice-read-t28
+shared-slice-read-t28 c = search needs
 
 returns : tie.Need-returns
 unfolding rowAt
@@ -72,24 +78,26 @@ pub row-spec : {M : Type 1} → statement M
 row-spec =
     tie.close
     (tie.spec
+    room-requires
     mul-first
-    mul-t7
-    shared-slice-read-t9
-    add-t10
-    mul-t11
-    shared-slice-read-t13
-    add-t14
-    mul-t15
-    shared-slice-read-t17
-    add-t18
-    mul-t19
-    shared-slice-read-t21
-    add-t22
-    mul-t23
-    shared-slice-read-t25
-    add-t26
-    mul-t27
-    shared-slice-read-t29
+    add-first
+    mul-t6
+    shared-slice-read-t8
+    add-t9
+    mul-t10
+    shared-slice-read-t12
+    add-t13
+    mul-t14
+    shared-slice-read-t16
+    add-t17
+    mul-t18
+    shared-slice-read-t20
+    add-t21
+    mul-t22
+    shared-slice-read-t24
+    add-t25
+    mul-t26
+    shared-slice-read-t28
     returns
     ragged-requires
     returns-2)

@@ -1,71 +1,24 @@
-use Rattle.refusals.specs.declared.Row.{Row}
-use Prim.Native.Nat.{_-_, _≤_}
-use mathlib.Core.Path.{_≡_, sym, ap, _∙_}
-use mathlib.Core.Logic.{⊎-elim}
+use mathlib.Core.Path.{sym, ap, _∙_}
 use denote.Ref.{now}
 use lib.ListN.{getD}
 use Rattle.refusals.specs.Names.{types, noType}
-use Rattle.names.specs.Tables.{rowsIn, isOf}
-use Rattle.names.specs.TablesLaws.{typeUp}
+use Rattle.names.specs.Tables.{isOf}
 use Rattle.names.specs.TablesLaws as law
 use borrow.Author.Needs.{needs}
-use native.Mathlib.Omega.{arith}
 use Rattle.names.proofs.type_of.Statement.{statement}
 use Rattle.names.proofs.type_of.Tie as tie
 
-abbrev Inv-loop : tie.InvT-loop
-Inv-loop cells n sought i k₀ left₀ k left = (k ≤ n) × (getD (types (isOf sought) (rowsIn cells n)) i noType ≡ typeUp (isOf sought) cells k n left)
+first-of-requires : tie.Need-first-of-requires
+first-of-requires c κs = search needs
 
-abbrev μ-loop : tie.MeasureT-loop
-μ-loop cells n sought i k₀ left₀ k left = n - k
+typed-from-requires : tie.Need-typed-from-requires
+typed-from-requires c κs = search needs
 
-loop-holds : tie.Need-loop-holds Inv-loop μ-loop
-loop-holds c = (omega arith, ap (λ l. getD (types (isOf (c .before .args .sought)) l) (c .before .args .i) noType) (law.up-begin (now (c .before .args .cells)) (c .before .args .n)))
-
-row-requires : tie.Need-row-requires Inv-loop μ-loop
-row-requires c κs = search needs
-
-is-of-requires : tie.Need-is-of-requires Inv-loop μ-loop
-is-of-requires c κs = search needs
-
-returns : tie.Need-returns Inv-loop μ-loop
-returns c = let args = (c .before .before .before .before .before .before .before .args) in
-    let told = (c .before .before .is-of .ensures) ∙ ap (isOf (args .sought)) (c .before .before .before .row .ensures) in
-    ap (λ (row : Row). row .typ) (c .before .before .before .row .ensures) ∙ sym ((c .before .before .before .before .before .loop .inv .1) ∙ rw (c .if2 .taken) (law.type-out (isOf (args .sought)) (now (args .cells)) (c .before .before .before .before .before .loop .k) (args .n) (c .before .before .before .before .loop-test .taken) (sym told ∙ (c .before .if1 .taken))))
-
-sub-left : tie.Need-sub-left Inv-loop μ-loop
-sub-left c = search needs
-
-add-k : tie.Need-add-k Inv-loop μ-loop
-add-k c = search needs
-
-loop-less : tie.Need-loop-less Inv-loop μ-loop
-loop-less c = search needs
-
-loop-again : tie.Need-loop-again Inv-loop μ-loop
-loop-again c = let args = (c .before .before .before .before .before .before .args) in
-    let loop = (c .before .before .before .before .loop) in
-    let told = (c .before .is-of .ensures) ∙ ap (isOf (args .sought)) (c .before .before .row .ensures) in
-    ⊎-elim
-    (λ w. (omega arith, loop .inv .1 ∙ law.type-less (isOf (args .sought)) (now (args .cells)) (loop .k) (args .n) (c .before .before .before .loop-test .taken) (sym told ∙ w .0 .taken) (loop .left) (w .1 .left) ∙ rw (w .2)))
-    (λ w. (omega arith, loop .inv .1 ∙ law.type-on (isOf (args .sought)) (now (args .cells)) (loop .k) (args .n) (c .before .before .before .loop-test .taken) (sym told ∙ w .0 .left) (loop .left) ∙ rw (w .1)))
-    (c .if1 .came)
-
-returns-2 : tie.Need-returns-2 Inv-loop μ-loop
-returns-2 c = sym ((c .before .loop .inv .1) ∙ law.type-end (isOf (c .before .before .before .args .sought)) (now (c .before .before .before .args .cells)) (c .before .loop .k) (c .before .before .before .args .n) (c .loop-test .left) (c .before .loop .left))
+returns : tie.Need-returns
+returns c text ix = let args = (c .before .before .before .args) in
+    let test = isOf (args .sought) in
+    let begin = ap (λ rows. getD (types test rows) (args .i) noType) (law.up-begin (now (args .cells)) (args .n)) in
+    (c .typed-from .ensures) ∙ sym (begin ∙ law.type-skip test (now (args .cells)) (args .n) (args .i) (c .before .first-of .result) (c .before .first-of .ensures text ix))
 
 pub type-of-spec : {M : Type 1} → statement M
-type-of-spec =
-    tie.close
-    (tie.spec
-    Inv-loop
-    μ-loop
-    loop-holds
-    row-requires
-    is-of-requires
-    returns
-    sub-left
-    add-k
-    loop-less
-    loop-again
-    returns-2)
+type-of-spec = tie.close (tie.spec first-of-requires typed-from-requires returns)

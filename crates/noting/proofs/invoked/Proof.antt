@@ -12,7 +12,7 @@ more-requires-2 : tie.Need-more-requires-2
 more-requires-2 c κs = search needs
 
 returns : tie.Need-returns
-returns c = rw (c .more2 .ensures, c .before .more .ensures, c .before .before .task-named .ensures)
+returns c ix = rw (c .more2 .ensures, c .before .more .ensures, c .before .before .task-named .ensures ix)
 
 pub invoked-spec : {M : Type 1} → statement M
 invoked-spec = tie.close (tie.spec task-named-requires more-requires more-requires-2 returns)

@@ -91,67 +91,67 @@ enum-told-16 : tie.Need-enum-told-16
 enum-told-16 c = search needs
 
 returns : tie.Need-returns
-returns c = c .begun .ensures ∙ sym (rw (c .before .before .item .given .1))
+returns c ix = c .begun .ensures ∙ sym (rw (c .before .before .item .given .1))
 
 returns-2 : tie.Need-returns-2
-returns-2 c = c .headed .ensures ∙ sym (rw (c .before .before .item2 .given .1))
+returns-2 c ix = c .headed .ensures ∙ sym (rw (c .before .before .item2 .given .1))
 
 returns-3 : tie.Need-returns-3
-returns-3 c = c .guarded .ensures ∙ sym (rw (c .before .before .item3 .given .1))
+returns-3 c ix = c .guarded .ensures ∙ sym (rw (c .before .before .item3 .given .1))
 
 returns-4 : tie.Need-returns-4
-returns-4 c = c .operated .ensures ∙ sym (rw (c .before .before .item4 .given .1))
+returns-4 c ix = c .operated .ensures ix ∙ sym (rw (c .before .before .item4 .given .1))
 
 returns-5 : tie.Need-returns-5
-returns-5 c = c .invoked .ensures ∙ sym (rw (c .before .before .item5 .given .1))
+returns-5 c ix = c .invoked .ensures ix ∙ sym (rw (c .before .before .item5 .given .1))
 
 returns-6 : tie.Need-returns-6
-returns-6 c = c .argued .ensures ∙ sym (rw (c .before .enum-told .given .1))
+returns-6 c ix = c .argued .ensures ∙ sym (rw (c .before .enum-told .given .1))
 
 returns-7 : tie.Need-returns-7
-returns-7 c = c .updated .ensures ∙ sym (rw (c .before .enum-told2 .given .1))
+returns-7 c ix = c .updated .ensures ∙ sym (rw (c .before .enum-told2 .given .1))
 
 returns-8 : tie.Need-returns-8
-returns-8 c = c .switched .ensures ∙ sym (rw (c .before .enum-told3 .given .1))
+returns-8 c ix = c .switched .ensures ∙ sym (rw (c .before .enum-told3 .given .1))
 
 returns-9 : tie.Need-returns-9
-returns-9 c = sym (rw (c .enum-told4 .given .1))
+returns-9 c ix = sym (rw (c .enum-told4 .given .1))
 
 returns-10 : tie.Need-returns-10
-returns-10 c = sym (rw (c .enum-told5 .given .1))
+returns-10 c ix = sym (rw (c .enum-told5 .given .1))
 
 returns-11 : tie.Need-returns-11
-returns-11 c = sym (rw (c .enum-told6 .given .1))
+returns-11 c ix = sym (rw (c .enum-told6 .given .1))
 
 returns-12 : tie.Need-returns-12
-returns-12 c = sym (rw (c .enum-told7 .given .1))
+returns-12 c ix = sym (rw (c .enum-told7 .given .1))
 
 returns-13 : tie.Need-returns-13
-returns-13 c = sym (rw (c .enum-told8 .given .1))
+returns-13 c ix = sym (rw (c .enum-told8 .given .1))
 
 returns-14 : tie.Need-returns-14
-returns-14 c = sym (rw (c .enum-told9 .given .1))
+returns-14 c ix = sym (rw (c .enum-told9 .given .1))
 
 returns-15 : tie.Need-returns-15
-returns-15 c = sym (rw (c .enum-told10 .given .1))
+returns-15 c ix = sym (rw (c .enum-told10 .given .1))
 
 returns-16 : tie.Need-returns-16
-returns-16 c = sym (rw (c .enum-told11 .given .1))
+returns-16 c ix = sym (rw (c .enum-told11 .given .1))
 
 returns-17 : tie.Need-returns-17
-returns-17 c = sym (rw (c .enum-told12 .given .1))
+returns-17 c ix = sym (rw (c .enum-told12 .given .1))
 
 returns-18 : tie.Need-returns-18
-returns-18 c = sym (rw (c .enum-told13 .given .1))
+returns-18 c ix = sym (rw (c .enum-told13 .given .1))
 
 returns-19 : tie.Need-returns-19
-returns-19 c = sym (rw (c .enum-told14 .given .1))
+returns-19 c ix = sym (rw (c .enum-told14 .given .1))
 
 returns-20 : tie.Need-returns-20
-returns-20 c = sym (rw (c .enum-told15 .given .1))
+returns-20 c ix = sym (rw (c .enum-told15 .given .1))
 
 returns-21 : tie.Need-returns-21
-returns-21 c = sym (rw (c .enum-told16 .given .1))
+returns-21 c ix = sym (rw (c .enum-told16 .given .1))
 
 pub noted-spec : {M : Type 1} → statement M
 noted-spec =

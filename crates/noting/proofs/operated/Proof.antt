@@ -12,7 +12,7 @@ less-requires : tie.Need-less-requires
 less-requires c κs = search needs
 
 returns : tie.Need-returns
-returns c = rw (c .less .ensures, c .before .settled .ensures, c .before .before .argument-named .ensures)
+returns c ix = rw (c .less .ensures, c .before .settled .ensures, c .before .before .argument-named .ensures ix)
 
 pub operated-spec : {M : Type 1} → statement M
 operated-spec = tie.close (tie.spec argument-named-requires settled-requires less-requires returns)

@@ -24,16 +24,16 @@ enum-told-2 c = search needs
 
 returns : tie.Need-returns
 unfolding callChecks
-returns c = part-ends (longName (c .before .before .before .before .args .name) ∷ []) _ (c .before .before .name-rules .ensures) (ap isFine (c .enum-told2 .given .1))
+returns c text ix = part-ends (longName (c .before .before .before .before .args .name) ∷ []) _ (c .before .before .name-rules .ensures) (ap isFine (c .enum-told2 .given .1))
 
 returns-2 : tie.Need-returns-2
 unfolding first callChecks
-returns-2 c = let args = (c .before .before .before .before .before .before .args) in
+returns-2 c text ix = let args = (c .before .before .before .before .before .before .args) in
     part-goes (longName (args .name) ∷ []) (notHere (args .task) (args .name) ∷ wrongNumber (isKnown (args .task)) (count (inputsOf (args .task)) (rowsIn (now (args .cells)) (args .n))) (args .count) (args .name) ∷ actsAgain (args .again) (args .task) (args .name) ∷ []) (c .before .before .before .before .name-rules .ensures) (c .before .before .enum-told .given .1) (simp (eq-eqb _ _ (c .if1 .taken)))
 
 returns-3 : tie.Need-returns-3
 unfolding first callChecks
-returns-3 c = let args = (c .before .before .before .before .before .before .before .before .args) in
+returns-3 c text ix = let args = (c .before .before .before .before .before .before .before .before .args) in
     part-goes (longName (args .name) ∷ []) (notHere (args .task) (args .name) ∷ wrongNumber (isKnown (args .task)) (count (inputsOf (args .task)) (rowsIn (now (args .cells)) (args .n))) (args .count) (args .name) ∷ actsAgain (args .again) (args .task) (args .name) ∷ []) (c .before .before .before .before .before .before .name-rules .ensures) (c .before .before .before .before .enum-told .given .1) (simp (ne-eqb _ _ (c .before .before .if1 .left), le-ltb _ _ (c .if2 .taken)))
 
 count-requires : tie.Need-count-requires
@@ -41,18 +41,18 @@ count-requires c κs = search needs
 
 returns-4 : tie.Need-returns-4
 unfolding first callChecks
-returns-4 c = let args = (c .before .before .before .before .before .before .before .before .before .before .args) in
-    part-goes (longName (args .name) ∷ []) (notHere (args .task) (args .name) ∷ wrongNumber (isKnown (args .task)) (count (inputsOf (args .task)) (rowsIn (now (args .cells)) (args .n))) (args .count) (args .name) ∷ actsAgain (args .again) (args .task) (args .name) ∷ []) (c .before .before .before .before .before .before .before .before .name-rules .ensures) (c .before .before .before .before .before .before .enum-told .given .1) (simp (ne-eqb _ _ (c .before .before .before .before .if1 .left), lt-ltb _ _ (c .before .before .if2 .left), ← (c .before .count .ensures), ne-eqb _ _ (c .if3 .taken)))
+returns-4 c text ix = let args = (c .before .before .before .before .before .before .before .before .before .before .args) in
+    part-goes (longName (args .name) ∷ []) (notHere (args .task) (args .name) ∷ wrongNumber (isKnown (args .task)) (count (inputsOf (args .task)) (rowsIn (now (args .cells)) (args .n))) (args .count) (args .name) ∷ actsAgain (args .again) (args .task) (args .name) ∷ []) (c .before .before .before .before .before .before .before .before .name-rules .ensures) (c .before .before .before .before .before .before .enum-told .given .1) (simp (ne-eqb _ _ (c .before .before .before .before .if1 .left), lt-ltb _ _ (c .before .before .if2 .left), ← (c .before .count .ensures _ ix), ne-eqb _ _ (c .if3 .taken)))
 
 returns-5 : tie.Need-returns-5
 unfolding first callChecks
-returns-5 c = let args = (c .before .before .before .before .before .before .before .before .before .before .before .args) in
-    part-goes (longName (args .name) ∷ []) (notHere (args .task) (args .name) ∷ wrongNumber (isKnown (args .task)) (count (inputsOf (args .task)) (rowsIn (now (args .cells)) (args .n))) (args .count) (args .name) ∷ actsAgain (args .again) (args .task) (args .name) ∷ []) (c .before .before .before .before .before .before .before .before .before .name-rules .ensures) (c .before .before .before .before .before .before .before .enum-told .given .1) (simp (ne-eqb _ _ (c .before .before .before .before .before .if1 .left), lt-ltb _ _ (c .before .before .before .if2 .left), ← (c .before .before .count .ensures), eq-eqb _ _ (c .before .if3 .left), (c .if4 .taken)))
+returns-5 c text ix = let args = (c .before .before .before .before .before .before .before .before .before .before .before .args) in
+    part-goes (longName (args .name) ∷ []) (notHere (args .task) (args .name) ∷ wrongNumber (isKnown (args .task)) (count (inputsOf (args .task)) (rowsIn (now (args .cells)) (args .n))) (args .count) (args .name) ∷ actsAgain (args .again) (args .task) (args .name) ∷ []) (c .before .before .before .before .before .before .before .before .before .name-rules .ensures) (c .before .before .before .before .before .before .before .enum-told .given .1) (simp (ne-eqb _ _ (c .before .before .before .before .before .if1 .left), lt-ltb _ _ (c .before .before .before .if2 .left), ← (c .before .before .count .ensures _ ix), eq-eqb _ _ (c .before .if3 .left), (c .if4 .taken)))
 
 returns-6 : tie.Need-returns-6
 unfolding first callChecks
-returns-6 c = let args = (c .before .before .before .before .before .before .before .before .before .before .before .args) in
-    part-goes (longName (args .name) ∷ []) (notHere (args .task) (args .name) ∷ wrongNumber (isKnown (args .task)) (count (inputsOf (args .task)) (rowsIn (now (args .cells)) (args .n))) (args .count) (args .name) ∷ actsAgain (args .again) (args .task) (args .name) ∷ []) (c .before .before .before .before .before .before .before .before .before .name-rules .ensures) (c .before .before .before .before .before .before .before .enum-told .given .1) (simp (ne-eqb _ _ (c .before .before .before .before .before .if1 .left), lt-ltb _ _ (c .before .before .before .if2 .left), ← (c .before .before .count .ensures), eq-eqb _ _ (c .before .if3 .left), (c .if4 .left)))
+returns-6 c text ix = let args = (c .before .before .before .before .before .before .before .before .before .before .before .args) in
+    part-goes (longName (args .name) ∷ []) (notHere (args .task) (args .name) ∷ wrongNumber (isKnown (args .task)) (count (inputsOf (args .task)) (rowsIn (now (args .cells)) (args .n))) (args .count) (args .name) ∷ actsAgain (args .again) (args .task) (args .name) ∷ []) (c .before .before .before .before .before .before .before .before .before .name-rules .ensures) (c .before .before .before .before .before .before .before .enum-told .given .1) (simp (ne-eqb _ _ (c .before .before .before .before .before .if1 .left), lt-ltb _ _ (c .before .before .before .if2 .left), ← (c .before .before .count .ensures _ ix), eq-eqb _ _ (c .before .if3 .left), (c .if4 .left)))
 
 pub call-rules-spec : {M : Type 1} → statement M
 call-rules-spec =

@@ -15,13 +15,13 @@ enum-told-2 : tie.Need-enum-told-2
 enum-told-2 c = search needs
 
 returns : tie.Need-returns
-returns c = part-ends _ _ (c .before .before .update-name-rules .ensures) (ap isFine (c .enum-told2 .given .1))
+returns c ix = part-ends _ _ (c .before .before .update-name-rules .ensures) (ap isFine (c .enum-told2 .given .1))
 
 port-rules-requires : tie.Need-port-rules-requires
 port-rules-requires c κs = search needs
 
 returns-2 : tie.Need-returns-2
-returns-2 c = part-goes _ _ (c .before .before .before .update-name-rules .ensures) (c .before .enum-told .given .1) (c .port-rules .ensures)
+returns-2 c ix = part-goes _ _ (c .before .before .before .update-name-rules .ensures) (c .before .enum-told .given .1) (c .port-rules .ensures ix)
 
 pub update-rules-spec : {M : Type 1} → statement M
 update-rules-spec =

@@ -15,7 +15,7 @@ enum-told-2 : tie.Need-enum-told-2
 enum-told-2 c = search needs
 
 returns : tie.Need-returns
-returns c = part-ends _ _ (c .before .before .type-rules .ensures) (ap isFine (c .enum-told2 .given .1))
+returns c ix = part-ends _ _ (c .before .before .type-rules .ensures) (ap isFine (c .enum-told2 .given .1))
 
 new-rules-requires : tie.Need-new-rules-requires
 new-rules-requires c κs = search needs
@@ -27,7 +27,7 @@ enum-told-4 : tie.Need-enum-told-4
 enum-told-4 c = search needs
 
 returns-2 : tie.Need-returns-2
-returns-2 c = part-goes _ _ (c .before .before .before .before .before .type-rules .ensures) (c .before .before .before .enum-told .given .1) (part-ends _ _ (c .before .before .new-rules .ensures) (ap isFine (c .enum-told4 .given .1)))
+returns-2 c ix = part-goes _ _ (c .before .before .before .before .before .type-rules .ensures) (c .before .before .before .enum-told .given .1) (part-ends _ _ (c .before .before .new-rules .ensures ix) (ap isFine (c .enum-told4 .given .1)))
 
 start-rules-requires : tie.Need-start-rules-requires
 start-rules-requires c κs = search needs
@@ -39,13 +39,13 @@ enum-told-6 : tie.Need-enum-told-6
 enum-told-6 c = search needs
 
 returns-3 : tie.Need-returns-3
-returns-3 c = part-goes _ _ (c .before .before .before .before .before .before .before .before .type-rules .ensures) (c .before .before .before .before .before .before .enum-told .given .1) (part-goes _ _ (c .before .before .before .before .before .new-rules .ensures) (c .before .before .before .enum-told3 .given .1) (part-ends _ _ (c .before .before .start-rules .ensures) (ap isFine (c .enum-told6 .given .1))))
+returns-3 c ix = part-goes _ _ (c .before .before .before .before .before .before .before .before .type-rules .ensures) (c .before .before .before .before .before .before .enum-told .given .1) (part-goes _ _ (c .before .before .before .before .before .new-rules .ensures ix) (c .before .before .before .enum-told3 .given .1) (part-ends _ _ (c .before .before .start-rules .ensures ix) (ap isFine (c .enum-told6 .given .1))))
 
 name-rules-requires : tie.Need-name-rules-requires
 name-rules-requires c κs = search needs
 
 returns-4 : tie.Need-returns-4
-returns-4 c = part-goes _ _ (c .before .before .before .before .before .before .before .before .before .type-rules .ensures) (c .before .before .before .before .before .before .before .enum-told .given .1) (part-goes _ _ (c .before .before .before .before .before .before .new-rules .ensures) (c .before .before .before .before .enum-told3 .given .1) (part-goes _ _ (c .before .before .before .start-rules .ensures) (c .before .enum-told5 .given .1) (c .name-rules .ensures)))
+returns-4 c ix = part-goes _ _ (c .before .before .before .before .before .before .before .before .before .type-rules .ensures) (c .before .before .before .before .before .before .before .enum-told .given .1) (part-goes _ _ (c .before .before .before .before .before .before .new-rules .ensures ix) (c .before .before .before .before .enum-told3 .given .1) (part-goes _ _ (c .before .before .before .start-rules .ensures ix) (c .before .enum-told5 .given .1) (c .name-rules .ensures)))
 
 pub actuator-rules-spec : {M : Type 1} → statement M
 actuator-rules-spec =

@@ -15,13 +15,13 @@ enum-told-2 : tie.Need-enum-told-2
 enum-told-2 c = search needs
 
 returns : tie.Need-returns
-returns c = part-ends _ _ (c .before .before .new-rules .ensures) (ap isFine (c .enum-told2 .given .1))
+returns c ix = part-ends _ _ (c .before .before .new-rules .ensures ix) (ap isFine (c .enum-told2 .given .1))
 
 value-rules-requires : tie.Need-value-rules-requires
 value-rules-requires c κs = search needs
 
 returns-2 : tie.Need-returns-2
-returns-2 c = part-goes _ _ (c .before .before .before .new-rules .ensures) (c .before .enum-told .given .1) (c .value-rules .ensures)
+returns-2 c ix = part-goes _ _ (c .before .before .before .new-rules .ensures ix) (c .before .enum-told .given .1) (c .value-rules .ensures ix)
 
 pub constant-rules-spec : {M : Type 1} → statement M
 constant-rules-spec =

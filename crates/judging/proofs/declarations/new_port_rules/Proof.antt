@@ -23,14 +23,14 @@ enum-told-2 c = search needs
 
 returns : tie.Need-returns
 unfolding newPortRules
-returns c = rw (← (c .before .before .before .count .ensures)) (part-ends (freshRules (now (c .before .before .before .before .before .before .args .s)) (rowsIn (now (c .before .before .before .before .before .before .args .cells)) (c .before .before .before .before .before .before .args .n)) (c .before .before .before .count .result) (c .before .before .before .before .before .before .args .name)) _ (c .before .before .fresh-rules .ensures) (ap isFine (c .enum-told2 .given .1)))
+returns c ix = rw (← (c .before .before .before .count .ensures _ ix)) (part-ends (freshRules (now (c .before .before .before .before .before .before .args .s)) (rowsIn (now (c .before .before .before .before .before .before .args .cells)) (c .before .before .before .before .before .before .args .n)) (c .before .before .before .count .result) (c .before .before .before .before .before .before .args .name)) _ (c .before .before .fresh-rules .ensures ix) (ap isFine (c .enum-told2 .given .1)))
 
 full-rules-requires : tie.Need-full-rules-requires
 full-rules-requires c κs = search needs
 
 returns-2 : tie.Need-returns-2
 unfolding newPortRules
-returns-2 c = rw (← (c .before .before .before .before .count .ensures)) (part-goes (freshRules (now (c .before .before .before .before .before .before .before .args .s)) (rowsIn (now (c .before .before .before .before .before .before .before .args .cells)) (c .before .before .before .before .before .before .before .args .n)) (c .before .before .before .before .count .result) (c .before .before .before .before .before .before .before .args .name)) _ (c .before .before .before .fresh-rules .ensures) (c .before .enum-told .given .1) (c .full-rules .ensures))
+returns-2 c ix = rw (← (c .before .before .before .before .count .ensures _ ix)) (part-goes (freshRules (now (c .before .before .before .before .before .before .before .args .s)) (rowsIn (now (c .before .before .before .before .before .before .before .args .cells)) (c .before .before .before .before .before .before .before .args .n)) (c .before .before .before .before .count .result) (c .before .before .before .before .before .before .before .args .name)) _ (c .before .before .before .fresh-rules .ensures ix) (c .before .enum-told .given .1) (c .full-rules .ensures _ ix))
 
 pub new-port-rules-spec : {M : Type 1} → statement M
 new-port-rules-spec =

@@ -25,7 +25,7 @@ enum-told-2 c = search needs
 
 returns : tie.Need-returns
 unfolding newRules
-returns c = part-ends (freshRules (now (c .before .before .before .before .before .args .s)) (rowsIn (now (c .before .before .before .before .before .args .cells)) (c .before .before .before .before .before .args .n)) 0 (c .before .before .before .before .before .args .name)) _ (c .before .before .fresh-rules .ensures) (ap isFine (c .enum-told2 .given .1))
+returns c ix = part-ends (freshRules (now (c .before .before .before .before .before .args .s)) (rowsIn (now (c .before .before .before .before .before .args .cells)) (c .before .before .before .before .before .args .n)) 0 (c .before .before .before .before .before .args .name)) _ (c .before .before .fresh-rules .ensures ix) (ap isFine (c .enum-told2 .given .1))
 
 count-requires : tie.Need-count-requires
 count-requires c κs = search needs
@@ -35,11 +35,11 @@ room-of-requires c κs = search needs
 
 returns-2 : tie.Need-returns-2
 unfolding first newRules
-returns-2 c = part-goes (freshRules (now (c .before .before .before .before .before .before .before .before .args .s)) (rowsIn (now (c .before .before .before .before .before .before .before .before .args .cells)) (c .before .before .before .before .before .before .before .before .args .n)) 0 (c .before .before .before .before .before .before .before .before .args .name)) (full (roomOf (c .before .before .before .before .before .before .before .before .args .sort)) (count (isSort (c .before .before .before .before .before .before .before .before .args .sort)) (rowsIn (now (c .before .before .before .before .before .before .before .before .args .cells)) (c .before .before .before .before .before .before .before .before .args .n))) (c .before .before .before .before .before .before .before .before .args .name .start) ∷ []) (c .before .before .before .before .before .fresh-rules .ensures) (c .before .before .before .enum-told .given .1) (simp (← (c .before .before .count .ensures), ← (c .before .room-of .ensures), le-leb _ _ (c .if1 .taken)))
+returns-2 c ix = part-goes (freshRules (now (c .before .before .before .before .before .before .before .before .args .s)) (rowsIn (now (c .before .before .before .before .before .before .before .before .args .cells)) (c .before .before .before .before .before .before .before .before .args .n)) 0 (c .before .before .before .before .before .before .before .before .args .name)) (full (roomOf (c .before .before .before .before .before .before .before .before .args .sort)) (count (isSort (c .before .before .before .before .before .before .before .before .args .sort)) (rowsIn (now (c .before .before .before .before .before .before .before .before .args .cells)) (c .before .before .before .before .before .before .before .before .args .n))) (c .before .before .before .before .before .before .before .before .args .name .start) ∷ []) (c .before .before .before .before .before .fresh-rules .ensures ix) (c .before .before .before .enum-told .given .1) (simp (← (c .before .before .count .ensures _ ix), ← (c .before .room-of .ensures), le-leb _ _ (c .if1 .taken)))
 
 returns-3 : tie.Need-returns-3
 unfolding first newRules
-returns-3 c = part-goes (freshRules (now (c .before .before .before .before .before .before .before .before .args .s)) (rowsIn (now (c .before .before .before .before .before .before .before .before .args .cells)) (c .before .before .before .before .before .before .before .before .args .n)) 0 (c .before .before .before .before .before .before .before .before .args .name)) (full (roomOf (c .before .before .before .before .before .before .before .before .args .sort)) (count (isSort (c .before .before .before .before .before .before .before .before .args .sort)) (rowsIn (now (c .before .before .before .before .before .before .before .before .args .cells)) (c .before .before .before .before .before .before .before .before .args .n))) (c .before .before .before .before .before .before .before .before .args .name .start) ∷ []) (c .before .before .before .before .before .fresh-rules .ensures) (c .before .before .before .enum-told .given .1) (simp (← (c .before .before .count .ensures), ← (c .before .room-of .ensures), lt-leb _ _ (c .if1 .left)))
+returns-3 c ix = part-goes (freshRules (now (c .before .before .before .before .before .before .before .before .args .s)) (rowsIn (now (c .before .before .before .before .before .before .before .before .args .cells)) (c .before .before .before .before .before .before .before .before .args .n)) 0 (c .before .before .before .before .before .before .before .before .args .name)) (full (roomOf (c .before .before .before .before .before .before .before .before .args .sort)) (count (isSort (c .before .before .before .before .before .before .before .before .args .sort)) (rowsIn (now (c .before .before .before .before .before .before .before .before .args .cells)) (c .before .before .before .before .before .before .before .before .args .n))) (c .before .before .before .before .before .before .before .before .args .name .start) ∷ []) (c .before .before .before .before .before .fresh-rules .ensures ix) (c .before .before .before .enum-told .given .1) (simp (← (c .before .before .count .ensures _ ix), ← (c .before .room-of .ensures), lt-leb _ _ (c .if1 .left)))
 
 pub new-rules-spec : {M : Type 1} → statement M
 new-rules-spec =

@@ -15,7 +15,7 @@ enum-told-2 : tie.Need-enum-told-2
 enum-told-2 c = search needs
 
 returns : tie.Need-returns
-returns c = part-ends _ _ (c .before .before .type-rules .ensures) (ap isFine (c .enum-told2 .given .1))
+returns c ix = part-ends _ _ (c .before .before .type-rules .ensures) (ap isFine (c .enum-told2 .given .1))
 
 new-port-rules-requires : tie.Need-new-port-rules-requires
 new-port-rules-requires c κs = search needs
@@ -27,13 +27,13 @@ enum-told-4 : tie.Need-enum-told-4
 enum-told-4 c = search needs
 
 returns-2 : tie.Need-returns-2
-returns-2 c = part-goes _ _ (c .before .before .before .before .before .type-rules .ensures) (c .before .before .before .enum-told .given .1) (part-ends _ _ (c .before .before .new-port-rules .ensures) (ap isFine (c .enum-told4 .given .1)))
+returns-2 c ix = part-goes _ _ (c .before .before .before .before .before .type-rules .ensures) (c .before .before .before .enum-told .given .1) (part-ends _ _ (c .before .before .new-port-rules .ensures ix) (ap isFine (c .enum-told4 .given .1)))
 
 start-rules-requires : tie.Need-start-rules-requires
 start-rules-requires c κs = search needs
 
 returns-3 : tie.Need-returns-3
-returns-3 c = part-goes _ _ (c .before .before .before .before .before .before .type-rules .ensures) (c .before .before .before .before .enum-told .given .1) (part-goes _ _ (c .before .before .before .new-port-rules .ensures) (c .before .enum-told3 .given .1) (c .start-rules .ensures))
+returns-3 c ix = part-goes _ _ (c .before .before .before .before .before .before .type-rules .ensures) (c .before .before .before .before .enum-told .given .1) (part-goes _ _ (c .before .before .before .new-port-rules .ensures ix) (c .before .enum-told3 .given .1) (c .start-rules .ensures ix))
 
 pub output-rules-spec : {M : Type 1} → statement M
 output-rules-spec =

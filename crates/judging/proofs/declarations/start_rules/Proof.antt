@@ -10,7 +10,7 @@ value-rules-requires : tie.Need-value-rules-requires
 value-rules-requires c κs = search needs
 
 returns : tie.Need-returns
-returns c = (c .value-rules .ensures) ∙ rw (c .before .type-named .ensures)
+returns c ix = (c .value-rules .ensures ix) ∙ rw (c .before .type-named .ensures)
 
 pub start-rules-spec : {M : Type 1} → statement M
 start-rules-spec = tie.close (tie.spec type-named-requires value-rules-requires returns)

@@ -1,16 +1,26 @@
-use mathlib.Core.Path.{_∙_}
+use mathlib.Core.Path.{ap, _∙_}
+use Rattle.refusals.specs.Checks.{first}
+use Rattle.judging.specs.Parted.{port-parted, port-plain}
 use borrow.Author.Needs.{needs}
 use Rattle.judging.proofs.ports.port_rules.Statement.{statement}
 use Rattle.judging.proofs.ports.port_rules.Tie as tie
 
-port-named-requires : tie.Need-port-named-requires
-port-named-requires c κs = search needs
-
-place-rules-requires : tie.Need-place-rules-requires
-place-rules-requires c κs = search needs
+parted-rules-requires : tie.Need-parted-rules-requires
+parted-rules-requires c κs = search needs
 
 returns : tie.Need-returns
-returns c = (c .place-rules .ensures) ∙ rw (c .before .port-named .ensures)
+returns c ix = (c .parted-rules .ensures ix) ∙ ap first (port-parted _ _ _ _ (c .before .if1 .taken))
+
+named-requires : tie.Need-named-requires
+named-requires c κs = search needs
+
+use-rules-requires : tie.Need-use-rules-requires
+use-rules-requires c κs = search needs
+
+returns-2 : tie.Need-returns-2
+returns-2 c ix = (c .use-rules .ensures) ∙ rw (c .before .named .ensures ix) (ap first (port-plain _ _ _ _ (c .before .before .before .if1 .left)))
 
 pub port-rules-spec : {M : Type 1} → statement M
-port-rules-spec = tie.close (tie.spec port-named-requires place-rules-requires returns)
+port-rules-spec =
+    tie.close
+    (tie.spec parted-rules-requires returns named-requires use-rules-requires returns-2)

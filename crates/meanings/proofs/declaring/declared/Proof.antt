@@ -105,67 +105,67 @@ enum-told-14 : tie.Need-enum-told-14
 enum-told-14 c = search needs
 
 returns : tie.Need-returns
-returns c = rw ((c .before .before .before .before .item .given .1), (c .row-of .ensures), (c .before .before .literal-type .ensures), (c .before .literal-word .ensures))
+returns c ix = rw ((c .before .before .before .before .item .given .1), (c .row-of .ensures), (c .before .before .literal-type .ensures ix), (c .before .literal-word .ensures ix))
 
 returns-2 : tie.Need-returns-2
-returns-2 c = rw ((c .before .before .item2 .given .1), (c .port-row .ensures))
+returns-2 c ix = rw ((c .before .before .item2 .given .1), (c .port-row .ensures ix))
 
 returns-3 : tie.Need-returns-3
-returns-3 c = rw ((c .before .before .item3 .given .1), (c .port-row2 .ensures))
+returns-3 c ix = rw ((c .before .before .item3 .given .1), (c .port-row2 .ensures ix))
 
 returns-4 : tie.Need-returns-4
-returns-4 c = rw ((c .before .before .before .item4 .given .1), (c .row-of2 .ensures), (c .before .count .ensures))
+returns-4 c ix = rw ((c .before .before .before .item4 .given .1), (c .row-of2 .ensures), (c .before .count .ensures _ ix))
 
 returns-5 : tie.Need-returns-5
-returns-5 c = rw ((c .before .before .before .item5 .given .1), (c .port-row3 .ensures), (c .before .count2 .ensures))
+returns-5 c ix = rw ((c .before .before .before .item5 .given .1), (c .port-row3 .ensures ix), (c .before .count2 .ensures _ ix))
 
 returns-6 : tie.Need-returns-6
-returns-6 c = rw ((c .before .before .before .item6 .given .1), (c .port-row4 .ensures), (c .before .count3 .ensures))
+returns-6 c ix = rw ((c .before .before .before .item6 .given .1), (c .port-row4 .ensures ix), (c .before .count3 .ensures _ ix))
 
 returns-7 : tie.Need-returns-7
-returns-7 c = rw ((c .before .before .before .item7 .given .1), (c .row-of3 .ensures), (c .before .count4 .ensures))
+returns-7 c ix = rw ((c .before .before .before .item7 .given .1), (c .row-of3 .ensures), (c .before .count4 .ensures _ ix))
 
 returns-8 : tie.Need-returns-8
-returns-8 c = rw (c .enum-told .given .1)
+returns-8 c ix = rw (c .enum-told .given .1)
 
 returns-9 : tie.Need-returns-9
-returns-9 c = rw (c .enum-told2 .given .1)
+returns-9 c ix = rw (c .enum-told2 .given .1)
 
 returns-10 : tie.Need-returns-10
-returns-10 c = rw (c .enum-told3 .given .1)
+returns-10 c ix = rw (c .enum-told3 .given .1)
 
 returns-11 : tie.Need-returns-11
-returns-11 c = rw (c .enum-told4 .given .1)
+returns-11 c ix = rw (c .enum-told4 .given .1)
 
 returns-12 : tie.Need-returns-12
-returns-12 c = rw (c .enum-told5 .given .1)
+returns-12 c ix = rw (c .enum-told5 .given .1)
 
 returns-13 : tie.Need-returns-13
-returns-13 c = rw (c .enum-told6 .given .1)
+returns-13 c ix = rw (c .enum-told6 .given .1)
 
 returns-14 : tie.Need-returns-14
-returns-14 c = rw (c .enum-told7 .given .1)
+returns-14 c ix = rw (c .enum-told7 .given .1)
 
 returns-15 : tie.Need-returns-15
-returns-15 c = rw (c .enum-told8 .given .1)
+returns-15 c ix = rw (c .enum-told8 .given .1)
 
 returns-16 : tie.Need-returns-16
-returns-16 c = rw (c .enum-told9 .given .1)
+returns-16 c ix = rw (c .enum-told9 .given .1)
 
 returns-17 : tie.Need-returns-17
-returns-17 c = rw (c .enum-told10 .given .1)
+returns-17 c ix = rw (c .enum-told10 .given .1)
 
 returns-18 : tie.Need-returns-18
-returns-18 c = rw (c .enum-told11 .given .1)
+returns-18 c ix = rw (c .enum-told11 .given .1)
 
 returns-19 : tie.Need-returns-19
-returns-19 c = rw (c .enum-told12 .given .1)
+returns-19 c ix = rw (c .enum-told12 .given .1)
 
 returns-20 : tie.Need-returns-20
-returns-20 c = rw (c .enum-told13 .given .1)
+returns-20 c ix = rw (c .enum-told13 .given .1)
 
 returns-21 : tie.Need-returns-21
-returns-21 c = rw (c .enum-told14 .given .1)
+returns-21 c ix = rw (c .enum-told14 .given .1)
 
 pub declared-spec : {M : Type 1} → statement M
 declared-spec =

@@ -13,7 +13,7 @@ row-of-requires : tie.Need-row-of-requires
 row-of-requires c κs = search needs
 
 returns : tie.Need-returns
-returns c = (c .row-of .ensures) ∙ rw ((c .before .type-named .ensures), (c .before .before .count .ensures))
+returns c ix = (c .row-of .ensures) ∙ rw ((c .before .type-named .ensures), (c .before .before .count .ensures _ ix))
 
 pub port-row-spec : {M : Type 1} → statement M
 port-row-spec = tie.close (tie.spec count-requires type-named-requires row-of-requires returns)

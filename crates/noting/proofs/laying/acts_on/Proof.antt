@@ -22,10 +22,10 @@ task-named-requires : tie.Need-task-named-requires
 task-named-requires c κs = search needs
 
 returns : tie.Need-returns
-returns c =
+returns c ix =
     let told = c .before .before .item .given .1 in
     record {
-      invokes = λ name arguments e. invoke-told _ _ told (c .task-named .ensures) e;
+      invokes = λ name arguments e. invoke-told _ _ told (c .task-named .ensures ix) e;
       updates = λ name source e. let z : _≡_ {A = ℕ} 0 1 = cc (sym told ∙ e) in absurd (omega arith);
       neither = λ i u. absurd (i _ _ told);
     }
@@ -37,16 +37,16 @@ named-requires : tie.Need-named-requires
 named-requires c κs = search needs
 
 returns-2 : tie.Need-returns-2
-returns-2 c =
+returns-2 c ix =
     let told = c .before .before .item2 .given .1 in
     record {
       invokes = λ name arguments e. let z : _≡_ {A = ℕ} 0 1 = cc (sym told ∙ e) in absurd (omega arith);
-      updates = λ name source e. update-told _ _ told (c .named .ensures) e;
+      updates = λ name source e. update-told _ _ told (c .named .ensures ix) e;
       neither = λ i u. absurd (u _ _ told);
     }
 
 returns-3 : tie.Need-returns-3
-returns-3 c =
+returns-3 c ix =
     record {
       invokes = λ name arguments e. absurd (miss notInvoke 13 tt (rw e at (c .before .match .keys2)));
       updates = λ name source e. absurd (miss notUpdate 15 tt (rw e at (c .match2 .keys2)));

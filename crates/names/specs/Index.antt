@@ -1,0 +1,139 @@
+-- The index of a table of names: what lets a name be found, and rows be counted, without going through all rows.
+use Prim.Native.Nat.{ℕ, _+_, _-_, _*_, _%_, _≤_, _<_, min}
+use mathlib.Core.Path.{_≡_}
+use mathlib.Core.List.{List, [], _∷_}
+use mathlib.Core.Bool.{cond}
+use lib.Dec.{eqb}
+use lib.ListN.{length, getD, set, replicate}
+use lib.Seq.{slice, sets}
+use Rattle.refusals.specs.declared.Row.{Row}
+use Rattle.refusals.specs.Names.{count, isSort, isPort, isPortOf}
+use Rattle.names.specs.Tables.{rowAt, rowsIn, hasRoom}
+use Rattle.names.specs.Chains.{lastOf}
+
+-- one of 256 chains, by a scope and what tells names apart: the length, the first letter and the last two
+abbrev pub mixed : ℕ → ℕ → ℕ → ℕ → ℕ → ℕ
+mixed scope size first before last = (scope * 37 + size % 256 * 17 + first * 3 + before * 11 + last) % 256
+
+-- the chain of a name in a scope
+unfoldable pub chainOf : ℕ → List ℕ → ℕ
+chainOf scope word = mixed (scope % 256) (length word) (getD word 0 0) (getD word (length word - 2) 0) (getD word (length word - 1) 0)
+
+-- the chain of a row
+abbrev pub chainBy : List ℕ → Row → ℕ
+chainBy s row = chainOf (row .scope) (slice (row .start) (row .end) s)
+
+-- the chain of the row at a place
+abbrev pub chainAt : List ℕ → List ℕ → ℕ → ℕ
+chainAt s cells k = chainBy s (rowAt cells k)
+
+-- how many rows the index has
+abbrev pub indexed : List ℕ → ℕ
+indexed cells = getD cells 0 0
+
+-- the last row of a chain, one more than its place; 0 where there is none
+abbrev pub headIn : List ℕ → ℕ → ℕ
+headIn cells chain = getD cells (chain + 256) 0
+
+-- the row before that at a place in its chain, one more than its place; 0 where there is none
+abbrev pub linkAt : List ℕ → ℕ → ℕ
+linkAt cells k = min (getD cells (k * 8 + 512 + 6) 0) k
+
+-- the chains that stand in the array are right for its rows and this text
+pub record Linked (s cells : List ℕ) : Type 0 where
+  pub heads : (chain : ℕ) → chain < 256 → headIn cells chain ≡ lastOf (chainAt s cells) chain (indexed cells)
+  pub links : (k : ℕ) → k < indexed cells → linkAt cells k ≡ lastOf (chainAt s cells) (chainAt s cells k) k
+
+-- how many rows are ports; how many are of a sort; and how many inputs or outputs are in a scope
+abbrev pub portsKept : List ℕ → ℕ
+portsKept cells = getD cells 1 0
+
+abbrev pub sortsKept : List ℕ → ℕ → ℕ
+sortsKept cells sort = getD cells (sort + 8) 0
+
+abbrev pub scopesKept : List ℕ → ℕ → ℕ → ℕ
+scopesKept cells scope sort = getD cells (scope * 4 + (sort - 4) + 16) 0
+
+-- the first row of a scope, one more than its place; 0 where there is none
+abbrev pub firstKept : List ℕ → ℕ → ℕ
+firstKept cells scope = getD cells (scope + 152) 0
+
+-- the counts that stand in the array are right for its rows
+pub record Counts (cells : List ℕ) : Type 0 where
+  pub ports : portsKept cells ≡ count isPort (rowsIn cells (indexed cells))
+  pub sorts : (sort : ℕ) → sort < 7 → sortsKept cells sort ≡ count (isSort sort) (rowsIn cells (indexed cells))
+  pub scopes : (scope sort : ℕ) → scope < 33 → 4 < sort → sort < 7 → scopesKept cells scope sort ≡ count (isPortOf scope sort) (rowsIn cells (indexed cells))
+  pub firsts : (scope k : ℕ) → scope < 33 → k < indexed cells → rowAt cells k .scope ≡ scope → (0 < firstKept cells scope) × (firstKept cells scope ≤ k + 1)
+
+-- the index that stands in the array is right for its rows and this text
+pub record Indexed (s cells : List ℕ) : Type 0 where
+  pub linked : Linked s cells
+  pub counts : Counts cells
+
+-- ---- one row more
+
+-- the numbers of a row and the link to the row before it in its chain
+abbrev pub numbers : Row → ℕ → List ℕ
+numbers row link = row .start ∷ row .end ∷ row .scope ∷ row .sort ∷ row .typ ∷ row .value ∷ link ∷ []
+
+-- the array with this row at a place, the last of its chain and of all
+unfoldable pub withRow : List ℕ → List ℕ → ℕ → Row → List ℕ
+withRow s cells n row =
+    let chain = chainBy s row in
+    set (set (sets cells (n * 8 + 512) (numbers row (headIn cells chain))) (chain + 256) (n + 1)) 0 (n + 1)
+
+-- one more than what stands at a place, which is at most n
+abbrev pub oneMore : List ℕ → ℕ → ℕ → ℕ
+oneMore cells place n = min (getD cells place 0) n + 1
+
+-- where a row counts: among the ports or beside them; by its sort; by its scope and sort; and where the first of its scope is kept
+abbrev pub kindPlace : Row → ℕ
+kindPlace row = cond (isPort row) 1 2
+
+abbrev pub sortPlace : Row → ℕ
+sortPlace row = min (row .sort) 7 + 8
+
+abbrev pub scopePlace : Row → ℕ
+scopePlace row = min (row .scope) 33 * 4 + (min (row .sort) 7 - 4) + 16
+
+abbrev pub firstPlace : Row → ℕ
+firstPlace row = min (row .scope) 33 + 152
+
+-- the first row of a scope, where one more stands in it
+abbrev pub firstBy : ℕ → ℕ → ℕ
+firstBy known new = cond (eqb known 0) new (min known new)
+
+-- the array with this row counted, behind n others
+unfoldable pub tallied : List ℕ → ℕ → Row → List ℕ
+tallied cells n row =
+    set
+    (set
+    (set
+    (set cells (kindPlace row) (oneMore cells (kindPlace row) n))
+    (sortPlace row) (oneMore cells (sortPlace row) n))
+    (scopePlace row) (oneMore cells (scopePlace row) n))
+    (firstPlace row) (firstBy (getD cells (firstPlace row) 0) (n + 1))
+
+-- the array with one row more behind the first n, where there is room
+abbrev pub declaredIn : List ℕ → List ℕ → ℕ → Row → List ℕ
+declaredIn s cells n row = cond (hasRoom cells n) (tallied (withRow s cells n row) n row) cells
+
+-- the array and the number of rows behind a declaration: one row more where there is room, else as before
+pub record Declared (s cells : List ℕ) (n : ℕ) (row : Row) (after : List ℕ) (count : ℕ) : Type 0 where
+  pub array : after ≡ declaredIn s cells n row
+  pub rows : count ≡ cond (hasRoom cells n) (n + 1) n
+
+-- ---- the table of names
+
+-- the table without names: room for 424 rows
+unfoldable pub emptyTable : List ℕ
+emptyTable = replicate 3904 0
+
+-- an array with these rows declared one after the other, behind the first k
+unfoldable pub enteredIn : List ℕ → List ℕ → ℕ → List Row → List ℕ
+enteredIn s cells k [] = cells
+enteredIn s cells k (row ∷ rows) = enteredIn s (declaredIn s cells k row) (k + 1) rows
+
+-- the table of these names
+unfoldable pub tableIn : List ℕ → List Row → List ℕ
+tableIn s rows = enteredIn s emptyTable 0 rows
