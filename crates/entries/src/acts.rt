@@ -3,6 +3,7 @@ ghost use mathlib.Core.Path.{_≡_};
 ghost use Rattle.refusals.specs.Ports.{taskNamed, portNamed};
 ghost use Rattle.refusals.specs.Activities.{actuatorNamed, modeNamed};
 ghost use Rattle.names.specs.Tables.{rowsIn};
+ghost use Rattle.names.specs.Index.{Indexed};
 ghost use Rattle.sheets.specs.Sheets.{TaskEnded, Invoked, Updated, Switched, Sourced};
 use super::rows;
 use names::Scope;
@@ -45,7 +46,7 @@ pub fn invoked(
     driver_rows: &mut [u32],
     acts: &mut [u32],
 ) -> Plan
-    ensures { λ r. ⌜ Invoked plan (taskNamed (now (s .entry)) (rowsIn (now (cells .entry)) n) task .value) (now («guard_rows» .entry)) (now («driver_rows» .entry)) (now (acts .entry)) r (now («guard_rows» .exit)) (now («driver_rows» .exit)) (now (acts .exit)) ⌝ }
+    ensures { λ r. ⌜ (Indexed (now (s .entry)) (now (cells .entry)) → Invoked plan (taskNamed (now (s .entry)) (rowsIn (now (cells .entry)) n) task .value) (now («guard_rows» .entry)) (now («driver_rows» .entry)) (now (acts .entry)) r (now («guard_rows» .exit)) (now («driver_rows» .exit)) (now (acts .exit))) ⌝ }
 {
     let row = meanings::task_named(s, cells, n, task);
     let number = heads::numbers::clamp(row.value);
@@ -83,7 +84,7 @@ pub fn source_read(
     port: Port,
     driver_rows: &mut [u32],
 ) -> Plan
-    ensures { λ r. ⌜ Sourced plan (portNamed (now (s .entry)) (rowsIn (now (cells .entry)) n) port .value) (now («driver_rows» .entry)) r (now («driver_rows» .exit)) ⌝ }
+    ensures { λ r. ⌜ (Indexed (now (s .entry)) (now (cells .entry)) → Sourced plan (portNamed (now (s .entry)) (rowsIn (now (cells .entry)) n) port .value) (now («driver_rows» .entry)) r (now («driver_rows» .exit))) ⌝ }
 {
     let filled = plan.filled;
     let opened = plan.opened;
@@ -124,7 +125,7 @@ pub fn updated(
     driver_rows: &mut [u32],
     acts: &mut [u32],
 ) -> Plan
-    ensures { λ r. ⌜ Updated plan (portNamed (now (s .entry)) (rowsIn (now (cells .entry)) n) source .value) (actuatorNamed (now (s .entry)) (rowsIn (now (cells .entry)) n) actuator .value) (now («guard_rows» .entry)) (now («driver_rows» .entry)) (now (acts .entry)) r (now («guard_rows» .exit)) (now («driver_rows» .exit)) (now (acts .exit)) ⌝ }
+    ensures { λ r. ⌜ (Indexed (now (s .entry)) (now (cells .entry)) → Updated plan (portNamed (now (s .entry)) (rowsIn (now (cells .entry)) n) source .value) (actuatorNamed (now (s .entry)) (rowsIn (now (cells .entry)) n) actuator .value) (now («guard_rows» .entry)) (now («driver_rows» .entry)) (now (acts .entry)) r (now («guard_rows» .exit)) (now («driver_rows» .exit)) (now (acts .exit))) ⌝ }
 {
     let from = meanings::port_named(s, cells, n, source);
     let to = meanings::named(s, cells, n, Scope::Numbered(0), 2, actuator);
@@ -174,7 +175,7 @@ pub fn switched(
     guard_rows: &mut [u32],
     acts: &mut [u32],
 ) -> Plan
-    ensures { λ r. ⌜ Switched plan (modeNamed (now (s .entry)) (rowsIn (now (cells .entry)) all) name .value) (now («guard_rows» .entry)) (now (acts .entry)) r (now («guard_rows» .exit)) (now (acts .exit)) ⌝ }
+    ensures { λ r. ⌜ (Indexed (now (s .entry)) (now (cells .entry)) → Switched plan (modeNamed (now (s .entry)) (rowsIn (now (cells .entry)) all) name .value) (now («guard_rows» .entry)) (now (acts .entry)) r (now («guard_rows» .exit)) (now (acts .exit))) ⌝ }
 {
     let row = meanings::named(s, cells, all, Scope::Numbered(0), 4, name);
     let filled = plan.filled;

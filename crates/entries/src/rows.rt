@@ -1,8 +1,8 @@
 // Rows of cells: one put in among others, and the rows of guards, drivers and activities.
 ghost use mathlib.Core.Path.{_≡_};
 ghost use mathlib.Core.List.{[], _∷_};
-ghost use Prim.Native.Nat.{_*_, _<_, _^_};
-ghost use lib.ListN.{getD, set};
+ghost use Prim.Native.Nat.{_+_, _*_, _<_, _≤_, _^_};
+ghost use lib.ListN.{getD, length, set};
 ghost use Rattle.layout.specs.Filling.{stored};
 ghost use Rattle.sheets.specs.Sheets.{raised, inserted, guardStored, sourceStored};
 use sheets::Acting;
@@ -16,8 +16,8 @@ fn lift(rows: &mut [u32], from: usize, to: usize)
     cells::put32(rows, from, 0);
 }
 
-// So many cells from a place on, moved up by a width.
-fn raise(rows: &mut [u32], place: usize, width: usize, count: usize)
+// So many cells from a place on, moved up by a width, where the array may end before the last of them.
+fn drag(rows: &mut [u32], place: usize, width: usize, count: usize)
     requires { ⌜ (place < 2 ^ 40) × (width < 2 ^ 10) × (count < 2 ^ 40) ⌝ }
     ensures { λ _. ⌜ now (rows .exit) ≡ raised place width count (now (rows .entry)) ⌝ }
 {
@@ -27,6 +27,32 @@ fn raise(rows: &mut [u32], place: usize, width: usize, count: usize)
         let from = place + left;
         lift(rows, from, from + width);
     }
+}
+
+// The same where the array has room for all of them.
+fn shift(rows: &mut [u32], place: usize, width: usize, count: usize)
+    requires { ⌜ (place < 2 ^ 40) × (width < 2 ^ 10) × (count < 2 ^ 40) × (place + width + count ≤ length (now rows)) ⌝ }
+    ensures { λ _. ⌜ now (rows .exit) ≡ raised place width count (now (rows .entry)) ⌝ }
+{
+    let mut left = count;
+    while 0 < left {
+        left -= 1;
+        let from = place + left;
+        rows[from + width] = rows[from];
+        rows[from] = 0;
+    }
+}
+
+// So many cells from a place on, moved up by a width.
+fn raise(rows: &mut [u32], place: usize, width: usize, count: usize)
+    requires { ⌜ (place < 2 ^ 40) × (width < 2 ^ 10) × (count < 2 ^ 40) ⌝ }
+    ensures { λ _. ⌜ now (rows .exit) ≡ raised place width count (now (rows .entry)) ⌝ }
+{
+    if place + width + count <= rows.len() {
+        shift(rows, place, width, count);
+        return;
+    }
+    drag(rows, place, width, count);
 }
 
 fn two(rows: &mut [u32], place: usize, first: u32, second: u32)

@@ -1,11 +1,12 @@
 // What is kept of the heads of modes and activities, and of what they count, while the table is filled.
-// Promises that every answer is what the definitions of sheets say, for every input.
+// Promises that every answer is what the definitions of sheets say, for every input; where names are looked up, for a table whose index is right for the text.
 // Builds on sheets, on what names mean, and on cells.
 ghost use mathlib.Core.Path.{_≡_};
 ghost use Rattle.refusals.specs.Values.{numberOf};
 ghost use Rattle.refusals.specs.Ports.{argumentNamed};
 ghost use Rattle.refusals.specs.Activities.{functionNamed};
 ghost use Rattle.names.specs.Tables.{rowsIn};
+ghost use Rattle.names.specs.Index.{Indexed};
 ghost use Rattle.sheets.specs.Sheets.{cap, begun, functionCell, withOperand, withActing, placeOf, wordIn};
 use refusals::Row;
 use sheets::Acting;
@@ -129,7 +130,7 @@ fn with_operand(acting: Acting, place: u32, word: u32) -> Acting
 }
 
 pub fn operand_read(s: &[u8], cells: &[usize], n: usize, plan: Plan, port: Port) -> Plan
-    ensures { λ r. ⌜ r ≡ withActing plan (withOperand (plan .acting) (placeOf (argumentNamed (now (s .entry)) (rowsIn (now (cells .entry)) n) port)) (wordIn (argumentNamed (now (s .entry)) (rowsIn (now (cells .entry)) n) port))) ⌝ }
+    ensures { λ r. ⌜ (Indexed (now (s .entry)) (now (cells .entry)) → r ≡ withActing plan (withOperand (plan .acting) (placeOf (argumentNamed (now (s .entry)) (rowsIn (now (cells .entry)) n) port)) (wordIn (argumentNamed (now (s .entry)) (rowsIn (now (cells .entry)) n) port)))) ⌝ }
 {
     let row = meanings::argument_named(s, cells, n, port);
     let acting = plan.acting;

@@ -1,8 +1,9 @@
 // Modes, guards, activities and drivers of a module, filled item by item into the arrays of its table and into the rows that code generation takes.
-// Promises that each item changes the arrays as the definition says (crate sheets), for every input.
+// Promises that each item changes the arrays as the definition says (crate sheets), for every input with a table of names whose index is right for the text.
 // Builds on sheets, heads and entries.
 ghost use mathlib.Core.Path.{_≡_};
 ghost use Rattle.names.specs.Tables.{rowsIn};
+ghost use Rattle.names.specs.Index.{Indexed};
 ghost use Rattle.sheets.specs.Sheets.{sheet, planned as plannedBy};
 use sheets::Plan;
 use text::Item;
@@ -22,7 +23,7 @@ pub fn planned<'a>(
     mode_rows: &mut [u32],
     modes: &mut [u32],
 ) -> Plan
-    ensures { λ r. ⌜ sheet r (now («guard_rows» .exit)) (now («driver_rows» .exit)) (now (acts .exit)) (now («mode_names» .exit)) (now («mode_rows» .exit)) (now (modes .exit)) ≡ plannedBy (now (s .entry)) (rowsIn (now (cells .entry)) all) (rowsIn (now (cells .entry)) n) item (sheet plan (now («guard_rows» .entry)) (now («driver_rows» .entry)) (now (acts .entry)) (now («mode_names» .entry)) (now («mode_rows» .entry)) (now (modes .entry))) ⌝ }
+    ensures { λ r. ⌜ (Indexed (now (s .entry)) (now (cells .entry)) → sheet r (now («guard_rows» .exit)) (now («driver_rows» .exit)) (now (acts .exit)) (now («mode_names» .exit)) (now («mode_rows» .exit)) (now (modes .exit)) ≡ plannedBy (now (s .entry)) (rowsIn (now (cells .entry)) all) (rowsIn (now (cells .entry)) n) item (sheet plan (now («guard_rows» .entry)) (now («driver_rows» .entry)) (now (acts .entry)) (now («mode_names» .entry)) (now («mode_rows» .entry)) (now (modes .entry)))) ⌝ }
 {
     match item {
         Item::TaskEnd(_) => entries::acts::task_ended(plan, driver_rows),

@@ -4,3 +4,4 @@ pub mod Parts
 pub mod Laid
 pub mod Holding
 pub mod Placing
+pub mod Late

@@ -6,7 +6,7 @@ use mathlib.Core.List.{List, []}
 use Rattle.text.specs.declared.Item.{Item}
 use Rattle.text.specs.declared.Item.the-variants as I
 use Rattle.refusals.specs.declared.Row.{Row}
-use Rattle.ports.specs.Boards.{Lanes, lanesOf, lanePut, Titles, titlesOf, board, placedBy}
+use Rattle.ports.specs.Boards.{Board, Lanes, lanesOf, lanePut, Titles, titlesOf, board, placedBy}
 use Rattle.ports.specs.declared.Ports.{Ports}
 
 -- no cell of a name, and none of a port
@@ -53,6 +53,10 @@ port-some number (suc role) typ start l h = refl
 -- what an item makes the next port: what it is, its type, what it holds at the beginning
 pub record Makes (s : List ℕ) (rows : List Row) (item : Item) (role typ start : ℕ) : Type 0 where
   pub made : (p : Ports) (l : Lanes) → portPut (p .ports) role typ start l ≡ lanesBy s rows item p l
+
+-- an item that puts nothing into the arrays
+pub record Still (item : Item) : Type 0 where
+  pub same : (s : List ℕ) (rows : List Row) (b : Board) → b ≡ placedBy s rows item b
 
 -- the four parts are the whole
 module _ (s : List ℕ) (rows : List Row) where

@@ -1,6 +1,7 @@
 // The cells of one port: what it is, its type, what it holds at the beginning.
 ghost use mathlib.Core.Path.{_≡_};
 ghost use Rattle.names.specs.Tables.{rowsIn};
+ghost use Rattle.names.specs.Index.{Indexed};
 ghost use Rattle.refusals.specs.Values.{typeNamed, literalWord};
 ghost use Rattle.ports.specs.Boards.{word as wordOf, lanesOf};
 ghost use Rattle.ports.specs.Parts.{portPut, Makes};
@@ -25,7 +26,7 @@ fn type_word(s: &[u8], typ: Name) -> u32
 }
 
 fn start_word(s: &[u8], cells: &[usize], n: usize, value: Literal) -> u32
-    ensures { λ r. ⌜ r ≡ wordOf (literalWord (now (s .entry)) (rowsIn (now (cells .entry)) n) value) ⌝ }
+    ensures { λ r. ⌜ (Indexed (now (s .entry)) (now (cells .entry)) → r ≡ wordOf (literalWord (now (s .entry)) (rowsIn (now (cells .entry)) n) value)) ⌝ }
 {
     let number = meanings::literal_word(s, cells, n, value);
     rows::word(number)
@@ -43,7 +44,7 @@ fn typed(s: &[u8], role: u32, typ: Name, start: u32) -> Made
 }
 
 pub(super) fn port_of(s: &[u8], cells: &[usize], n: usize, item: Item) -> Made
-    ensures { λ r. ⌜ Makes (now (s .entry)) (rowsIn (now (cells .entry)) n) item (r .role) (r .typ) (r .start) ⌝ }
+    ensures { λ r. ⌜ (Indexed (now (s .entry)) (now (cells .entry)) → Makes (now (s .entry)) (rowsIn (now (cells .entry)) n) item (r .role) (r .typ) (r .start)) ⌝ }
 {
     match item {
         Item::Sensor {

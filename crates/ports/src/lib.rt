@@ -1,10 +1,15 @@
 // What the declarations of a text put into the arrays of a table: names, ports and the rows of tasks.
-// Promises: for every text, table of names, item and array, each cell is what the definition of that item puts there (specs/), and nothing else changes.
+// Promises: for every text, table of names with a right index, item and array, each cell is what the definition of that item puts there (specs/), and nothing else changes.
 // Builds on what names and values mean, and on the layout of a table.
+ghost use mathlib.Core.Bool.{true};
 ghost use mathlib.Core.Path.{_≡_};
 ghost use Rattle.names.specs.Tables.{rowsIn};
+ghost use Rattle.names.specs.Index.{Indexed};
 ghost use Rattle.ports.specs.Boards.{boardOf, placedBy};
+ghost use Rattle.ports.specs.Parts.{Still};
+ghost use Rattle.ports.specs.Late.{late as lateOf};
 use text::Item;
+use text::State;
 
 mod counts;
 mod lanes;
@@ -26,6 +31,52 @@ pub struct Ports {
     pub outputs: u32,
 }
 
+// Whether an item puts nothing into the arrays.
+fn still(item: Item) -> bool
+    ensures { λ r. ⌜ (r ≡ true → Still item) ⌝ }
+{
+    match item {
+        Item::Module(_) => false,
+        Item::Sensor {
+            typ: _,
+            name: _,
+            getter: _,
+        } => false,
+        Item::Actuator {
+            typ: _,
+            name: _,
+            value: _,
+            setter: _,
+        } => false,
+        Item::TaskBegin(_) => false,
+        Item::Input { typ: _, name: _ } => false,
+        Item::Output {
+            typ: _,
+            name: _,
+            value: _,
+        } => false,
+        Item::TaskEnd(_) => false,
+        _ => true,
+    }
+}
+
+// Whether from a state on no item puts anything into the arrays: behind the first mode's begin nothing is declared.
+pub fn late(state: State) -> bool
+    ensures { λ r. ⌜ r ≡ lateOf state ⌝ }
+{
+    match state {
+        State::Begin => false,
+        State::Module(section) => 5 < section,
+        State::Task(_) => false,
+        State::Mode(_) => true,
+        State::Act(_) => true,
+        State::Guarded(_) => true,
+        State::GuardArgs(_) => true,
+        State::Args => true,
+        State::Finish => true,
+    }
+}
+
 // An item put into the arrays, where the first n rows of the table of names stand before it.
 pub fn placed(
     s: &[u8],
@@ -43,8 +94,11 @@ pub fn placed(
     starts: &mut [u32],
     task_rows: &mut [u32],
 ) -> Ports
-    ensures { λ r. ⌜ boardOf r (now (name .exit)) (now («sensor_names» .exit)) (now («actuator_names» .exit)) (now («task_names» .exit)) (now («output_names» .exit)) (now (roles .exit)) (now (types .exit)) (now (starts .exit)) (now («task_rows» .exit)) ≡ placedBy (now (s .entry)) (rowsIn (now (cells .entry)) n) item (boardOf ports (now (name .entry)) (now («sensor_names» .entry)) (now («actuator_names» .entry)) (now («task_names» .entry)) (now («output_names» .entry)) (now (roles .entry)) (now (types .entry)) (now (starts .entry)) (now («task_rows» .entry))) ⌝ }
+    ensures { λ r. ⌜ (Indexed (now (s .entry)) (now (cells .entry)) → boardOf r (now (name .exit)) (now («sensor_names» .exit)) (now («actuator_names» .exit)) (now («task_names» .exit)) (now («output_names» .exit)) (now (roles .exit)) (now (types .exit)) (now (starts .exit)) (now («task_rows» .exit)) ≡ placedBy (now (s .entry)) (rowsIn (now (cells .entry)) n) item (boardOf ports (now (name .entry)) (now («sensor_names» .entry)) (now («actuator_names» .entry)) (now («task_names» .entry)) (now («output_names» .entry)) (now (roles .entry)) (now (types .entry)) (now (starts .entry)) (now («task_rows» .entry)))) ⌝ }
 {
+    if still(item) {
+        return ports;
+    }
     let behind = counts::counted(item, ports);
     let port = lanes::port_of(s, cells, n, item);
     titles::titled(

@@ -1,6 +1,6 @@
 // Names in rows of 33 cells, a length and up to 32 bytes; and the numbers that count what is declared.
 ghost use mathlib.Core.Path.{_≡_};
-ghost use Prim.Native.Nat.{_<_, _^_, min};
+ghost use Prim.Native.Nat.{_-_, _<_, _^_, min};
 ghost use lib.ListN.{length};
 ghost use Rattle.layout.specs.Filling.{stored};
 ghost use Rattle.ports.specs.Boards.{word as wordOf, more as oneMore, both as bothOf, shortPart, shortName, nameRow};
@@ -52,14 +52,25 @@ fn size(s: &[u8], name: Name) -> usize
     least(end - start, 32)
 }
 
+// How many cells there are from a place on.
+fn room(all: usize, place: usize) -> usize
+    ensures { λ r. ⌜ r ≡ all - place ⌝ }
+{
+    if place < all {
+        return all - place;
+    }
+    0
+}
+
 // Those bytes, to the cells from a place on.
 fn copy(s: &[u8], start: usize, end: usize, many: usize, place: usize, names: &mut [u8])
     requires { ⌜ (many ≡ length (shortPart (now s) start end)) × (place < 2 ^ 41) ⌝ }
     ensures { λ _. ⌜ now (names .exit) ≡ stored (now (names .entry)) place (shortPart (now (s .entry)) start end) ⌝ }
 {
+    let stop = least(many, room(names.len(), place));
     let mut k = 0;
-    while k < many {
-        cells::put8(names, place + k, s[start + k]);
+    while k < stop {
+        names[place + k] = s[start + k];
         k += 1;
     }
 }

@@ -18,7 +18,6 @@ use Rattle.refusals.specs.declared.Verdict.{Verdict}
 use Rattle.refusals.specs.declared.Verdict.the-variants.{Fine, No}
 use Rattle.refusals.specs.Checks.{first, isFine}
 use Rattle.refusals.specs.ChecksLaws.{first-on, first-stop}
-use Rattle.refusals.specs.Names.{count}
 use Rattle.refusals.specs.NamesLaws.{Sorted, rows-sorted}
 use Rattle.refusals.specs.Declarations.{declares, rowsAfter}
 use Rattle.refusals.specs.Draft.{blank}
@@ -26,14 +25,14 @@ use Rattle.refusals.specs.Rules.{Env, nothing, grow, rules, rulesFrom, envAfter
 use Rattle.refusals.specs.Texts.{declaredBy, verdictOf}
 use Rattle.accepted.specs.Steps.{Comes, item-comes}
 use Rattle.accepted.specs.RowsFit.{RowsFit, fitting}
-use Rattle.names.specs.Tables.{rowsFrom, rowsIn}
+use Rattle.names.specs.Tables.{rowsIn}
+use Rattle.names.specs.Index.{emptyTable, tableIn}
 use Rattle.meanings.specs.Held.{rowsOf, heldRow}
 use Rattle.meanings.specs.declared.declaring.Declaration.{Declaration}
 use Rattle.noting.specs.declared.Known.{Known}
 use Rattle.noting.specs.Known.{nothingKnown, notedBy}
 use Rattle.noting.specs.Laying.{Laid, Entered}
-use Rattle.noting.specs.Filled.{emptyTable, tableOf, table-none, empty-long}
-use Rattle.noting.specs.Rowed.{Rowed, rowed-size, rows-room, joins, rowed-on}
+use Rattle.noting.specs.Rowed.{Rowed, rowed-first, rowed-size, rows-room, joins, rowed-on}
 use Rattle.noting.specs.Drafted.{Drafted, drafted-on, drafted-first}
 use Rattle.targets.specs.AheadLaws.{goes-plain, stop-quiet}
 use Rattle.rules.specs.Meets.{Meets}
@@ -51,19 +50,19 @@ pub record Going (s : List ℕ) (state : State) (at : ℕ) (cells : List ℕ) (n
   pub within : at ≤ length s
   pub left : verdictOf s ≡ first (rulesFrom s (allNames s) env (itemsFrom s state at))
   pub declared : allNames s ≡ rowsAfter s (env .rows) (itemsFrom s state at)
-  pub rowed : Rowed (env .rows) cells n
+  pub rowed : Rowed s (env .rows) cells n
   pub drafted : Drafted state (env .rows) (env .draft) known rates tasks aims
 
--- the array and the number of its rows are the table of these names
-pub record Tabled (names : List Row) (cells : List ℕ) (n : ℕ) : Type 0 where
+-- the array and the number of its rows are the table of these names of a text
+pub record Tabled (s : List ℕ) (names : List Row) (cells : List ℕ) (n : ℕ) : Type 0 where
   pub rows : rowsIn cells n ≡ names
   pub size : n ≡ length names
-  pub table : cells ≡ tableOf names
+  pub table : cells ≡ tableIn s names
 
 -- the answer of the pass, and with a fine one the names of the whole text
 pub record Answered (s : List ℕ) (verdict : Verdict) (cells : List ℕ) (n : ℕ) : Type 0 where
   pub leftmost : verdict ≡ verdictOf s
-  pub names : verdict ≡ Fine → Tabled (allNames s) cells n
+  pub names : verdict ≡ Fine → Tabled s (allNames s) cells n
 
 -- a turn of the pass: it answers, or it stands further on
 abbrev pub Turned : List ℕ → ℕ → Turn → List ℕ → List ℕ → List ℕ → List ℕ → Type 0
@@ -78,14 +77,13 @@ pub record Spread (cells rates tasks aims : List ℕ) : Type 0 where
   pub long-aims : length aims ≡ activityRoom
 
 pub begins : (s : List ℕ) {cells rates tasks aims : List ℕ} → Spread cells rates tasks aims → Going s Q.Begin 0 cells 0 nothingKnown rates tasks aims
-unfolding rowsFrom count
 begins s {cells} {rates} {tasks} {aims} l =
     record {
       env = nothing;
       within = omega arith;
       left = refl;
       declared = refl;
-      rowed = record { same = refl; table = l .no-names ∙ sym table-none; long = rw (l .no-names) empty-long; roomy = record { room = λ sort. omega arith }; fits = tt; sorted = tt };
+      rowed = rw (l .no-names) (rowed-first s);
       drafted = drafted-first blank rates tasks aims refl refl refl (l .long-rates) (l .long-tasks) (l .long-aims);
     }
 
@@ -150,7 +148,7 @@ module _ {s : List ℕ} {state : State} {at : ℕ} {cells : List ℕ} {n : ℕ} 
       }
 
   pub goes-on : {ratesThen tasksThen aimsThen : List ℕ} → Laid s (rowsIn cells n) known (read .item) rates tasks aims ratesThen tasksThen aimsThen → first (rules s (allNames s) (g .env) (read .item)) ≡ Fine → goes (read .item) ≡ true
-      → (declaration : Declaration) → rowsOf declaration ≡ map heldRow (declares s (rowsIn cells n) (read .item)) → {cellsThen : List ℕ} {count : ℕ} → Entered cells n declaration cellsThen count
+      → (declaration : Declaration) → rowsOf declaration ≡ map heldRow (declares s (rowsIn cells n) (read .item)) → {cellsThen : List ℕ} {count : ℕ} → Entered s cells n declaration cellsThen count
       → {more : Known} → more ≡ notedBy s (rowsIn cells n) known (read .item) → (at < read .next) × Going s (read .state) (read .next) cellsThen count more ratesThen tasksThen aimsThen
   unfolding rulesFrom rowsAfter envAfter
   goes-on {ratesThen} {tasksThen} {aimsThen} l v k declaration e {cellsThen} {count} d {more} q =
@@ -177,24 +175,51 @@ module _ {s : List ℕ} {state : State} {at : ℕ} {cells : List ℕ} {n : ℕ} 
 
 -- ---- the answer as a whole
 
--- for a text that breaks no rule its names, for any other none
+-- for a text that breaks no rule the number of its names, for any other 0
 abbrev pub judgedBy : Verdict → List Row → Judged
-judgedBy Fine names = record { verdict = Fine; rows = length names; cells = tableOf names }
-judgedBy (No number at) names = record { verdict = No number at; rows = 0; cells = emptyTable }
+judgedBy Fine names = record { verdict = Fine; rows = length names }
+judgedBy (No number at) names = record { verdict = No number at; rows = 0 }
 
 -- what a text is answered with
 abbrev pub judged : List ℕ → Judged
 judged s = judgedBy (verdictOf s) (allNames s)
 
-module _ {s : List ℕ} {verdict : Verdict} {cells : List ℕ} {n : ℕ} (a : Answered s verdict cells n) where
-  pub whole-no : isFine verdict ≡ false → record { verdict = verdict; rows = 0; cells = emptyTable } ≡ judged s
-  whole-no e = rw (← a .leftmost) (by verdict e)
-    where
-      by : (v : Verdict) → isFine v ≡ false → record { verdict = v; rows = 0; cells = emptyTable } ≡ judgedBy v (allNames s)
-      by Fine e = let z : _≡_ {A = ℕ} 0 1 = cc in absurd (omega arith)
-      by (No number at) e = refl
+-- for a text that breaks no rule the table of its names, for any other the table without names
+abbrev pub tabledBy : List ℕ → Verdict → List Row → List ℕ
+tabledBy s Fine names = tableIn s names
+tabledBy s (No number at) names = emptyTable
 
-  pub whole-fine : verdict ≡ Fine → record { verdict = Fine; rows = n; cells = cells } ≡ judged s
-  whole-fine e =
+-- the table of a text's names
+abbrev pub tabled : List ℕ → List ℕ
+tabled s = tabledBy s (verdictOf s) (allNames s)
+
+-- an answer and a table are a text's
+pub record Judges (s : List ℕ) (r : Judged) (cells : List ℕ) : Type 0 where
+  pub leftmost : r .verdict ≡ verdictOf s
+  pub names : r .verdict ≡ Fine → rowsIn cells (r .rows) ≡ allNames s
+  pub answer : r ≡ judged s
+  pub table : cells ≡ tabled s
+
+module _ {s : List ℕ} {verdict : Verdict} {cells : List ℕ} {n : ℕ} (a : Answered s verdict cells n) where
+  pub judges-no : isFine verdict ≡ false → Judges s (record { verdict = verdict; rows = 0 }) emptyTable
+  judges-no e =
+      record {
+        leftmost = a .leftmost;
+        names = λ fine. let z : _≡_ {A = ℕ} 0 1 = cc (sym (ap isFine fine) ∙ e) in absurd (omega arith);
+        answer = rw (← a .leftmost) (by verdict e .0);
+        table = rw (← a .leftmost) (by verdict e .1);
+      }
+    where
+      by : (v : Verdict) → isFine v ≡ false → (record { verdict = v; rows = 0 } ≡ judgedBy v (allNames s)) × (emptyTable ≡ tabledBy s v (allNames s))
+      by Fine e = let z : _≡_ {A = ℕ} 0 1 = cc in absurd (omega arith)
+      by (No number at) e = (refl, refl)
+
+  pub judges-fine : verdict ≡ Fine → Judges s (record { verdict = Fine; rows = n }) cells
+  judges-fine e =
       let w = a .names e in
-      rw (← a .leftmost, e, ← w .size, ← w .table)
+      record {
+        leftmost = sym e ∙ a .leftmost;
+        names = λ fine. w .rows;
+        answer = rw (← a .leftmost, e, ← w .size);
+        table = w .table ∙ rw (← a .leftmost, e);
+      }

@@ -48,7 +48,7 @@ pub record Meets (s : List ℕ) (all : List Row) (env : Env) (state : State) (at
   pub comes : goes item ≡ true → Comes s state at item behind next
   pub within : at ≤ length s
   pub declared : all ≡ rowsAfter s (env .rows) (itemsFrom s state at)
-  pub rowed : Rowed (env .rows) cells n
+  pub rowed : Rowed s (env .rows) cells n
   pub laid : Laid s (env .rows) known item rates-before tasks-before aims-before rates tasks aims
   pub drafted : Drafted state (env .rows) (env .draft) known rates-before tasks-before aims-before
 

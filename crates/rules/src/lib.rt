@@ -1,11 +1,8 @@
 // Refusals 4 to 12: the judging pass over a text.
-// Promises the leftmost of 4 to 12, for every text, and for a text that breaks none the table of all its names.
-// Builds on the items of a text, on the rules of declarations and activities, and on what the pass knows at each item.
-ghost use mathlib.Core.Path.{_≡_};
-ghost use Rattle.refusals.specs.declared.Verdict.the-variants.{Fine};
-ghost use Rattle.refusals.specs.Texts.{verdictOf};
-ghost use Rattle.names.specs.Tables.{rowsIn};
-ghost use Rattle.rules.specs.Going.{allNames, Going, Answered, Turned, Spread, judged};
+// Promises the leftmost of 4 to 12, for every text whose items are kept, and for a text that breaks none the table of all its names.
+// Builds on the kept items of a text, on the rules of declarations and activities, and on what the pass knows at each item.
+ghost use Rattle.kept.specs.Kept.{Kept};
+ghost use Rattle.rules.specs.Going.{Going, Answered, Turned, Spread, Judges};
 use meanings::declaring;
 use noting::Known;
 use noting::laying;
@@ -34,16 +31,17 @@ struct Outcome {
     rows: usize,
 }
 
-// What a text breaks, and the names that it declares, six numbers to a row.
+// What a text breaks, and how many names it declares where it breaks nothing.
 pub struct Judged {
     pub verdict: Verdict,
     pub rows: usize,
-    pub cells: [usize; 2544],
 }
 
-// One item: it is judged, and where it breaks nothing, what it declares and does is entered.
-fn step(
-    s: &[u8],
+// Item k: it is judged, and where it breaks nothing, what it declares and does is entered.
+fn step<'a>(
+    s: &'a [u8],
+    memo: &'a [usize],
+    k: usize,
     cells: &mut [usize],
     n: usize,
     rates: &mut [usize],
@@ -53,13 +51,26 @@ fn step(
     at: usize,
     known: Known,
 ) -> Turn
-    requires { ⌜ Going (now s) state at (now cells) n known (now rates) (now tasks) (now aims) ⌝ }
-    ensures { λ r. ⌜ Turned (now (s .entry)) at r (now (cells .exit)) (now (rates .exit)) (now (tasks .exit)) (now (aims .exit)) ⌝ }
+    ensures { λ r. ⌜ (Kept (now (s .entry)) (now (memo .entry)) → Going (now (s .entry)) state at (now (cells .entry)) n known (now (rates .entry)) (now (tasks .entry)) (now (aims .entry))
+        → Turned (now (s .entry)) at r (now (cells .exit)) (now (rates .exit)) (now (tasks .exit)) (now (aims .exit))) ⌝ }
 {
-    let read = items::item(s, state, at);
+    let read = kept::item(s, memo, k, state, at);
     let found = read.item;
     laying::laid(s, cells, n, rates, tasks, aims, known, found);
-    let verdict = verdicts::item_rules(s, cells, n, rates, tasks, aims, state, at, known, found);
+    let verdict = verdicts::item_rules(
+        s,
+        memo,
+        k,
+        cells,
+        n,
+        rates,
+        tasks,
+        aims,
+        state,
+        at,
+        known,
+        found,
+    );
     let Verdict::Fine = verdict else {
         return Turn::Stop {
             verdict: verdict,
@@ -69,7 +80,7 @@ fn step(
     if targets::goes(found) {
         let declaration = declaring::declared(s, cells, n, found);
         let next = noting::noted(s, cells, n, known, found);
-        let rows = laying::entered(cells, n, declaration);
+        let rows = laying::entered(s, cells, n, declaration);
         let behind = read.state;
         return Turn::On {
             state: behind,
@@ -85,22 +96,24 @@ fn step(
 }
 
 // All items, up to the first that breaks a rule.
-fn fold(
-    s: &[u8],
+fn fold<'a>(
+    s: &'a [u8],
+    memo: &'a [usize],
     cells: &mut [usize],
     rates: &mut [usize],
     tasks: &mut [usize],
     aims: &mut [usize],
 ) -> Outcome
     requires { ⌜ Spread (now cells) (now rates) (now tasks) (now aims) ⌝ }
-    ensures { λ r. ⌜ Answered (now (s .entry)) (r .verdict) (now (cells .exit)) (r .rows) ⌝ }
+    ensures { λ r. ⌜ (Kept (now (s .entry)) (now (memo .entry)) → Answered (now (s .entry)) (r .verdict) (now (cells .exit)) (r .rows)) ⌝ }
 {
     let mut state = State::Begin;
     let mut at = 0;
     let mut n = 0;
     let mut known = noting::nothing();
-    loop {
-        let turn = step(s, cells, n, rates, tasks, aims, state, at, known);
+    let mut k = 0;
+    while at <= s.len() {
+        let turn = step(s, memo, k, cells, n, rates, tasks, aims, state, at, known);
         match turn {
             Turn::Stop {
                 verdict: answer,
@@ -117,38 +130,45 @@ fn fold(
                 rows,
                 known: more,
             } => {
+                if next <= at {
+                    return Outcome {
+                        verdict: Verdict::Fine,
+                        rows: rows,
+                    };
+                }
                 state = behind;
                 at = next;
                 n = rows;
                 known = more;
+                k = std::num::wrapping_add_usize(k, 1);
             }
         }
+    }
+    Outcome {
+        verdict: Verdict::Fine,
+        rows: n,
     }
 }
 
 // The leftmost of 4 to 12 that a text breaks, and where it breaks none the table of the names that it declares; beside a refusal the table is empty.
-pub fn judge(s: &[u8]) -> Judged
-    ensures leftmost { λ r. ⌜ r .verdict ≡ verdictOf (now (s .entry)) ⌝ }
-    ensures names { λ r. ⌜ (r .verdict ≡ Fine → rowsIn (r .cells) (r .rows) ≡ allNames (now (s .entry))) ⌝ }
-    ensures whole { λ r. ⌜ r ≡ judged (now (s .entry)) ⌝ }
+pub fn judge<'a>(s: &'a [u8], memo: &'a [usize], cells: &mut [usize; 3904]) -> Judged
+    ensures { λ r. ⌜ (Kept (now (s .entry)) (now (memo .entry)) → Judges (now (s .entry)) r (now (cells .exit))) ⌝ }
 {
-    let mut cells = [0usize; 2544];
+    *cells = [0usize; 3904];
     let mut rates = [0usize; 32];
     let mut tasks = [0usize; 32];
     let mut aims = [0usize; 32];
-    let outcome = fold(s, &mut cells, &mut rates, &mut tasks, &mut aims);
+    let outcome = fold(s, memo, cells, &mut rates, &mut tasks, &mut aims);
     let answer = outcome.verdict;
     let Verdict::Fine = answer else {
-        let blank = [0usize; 2544];
+        *cells = [0usize; 3904];
         return Judged {
             verdict: answer,
             rows: 0,
-            cells: blank,
         };
     };
     Judged {
         verdict: Verdict::Fine,
         rows: outcome.rows,
-        cells: cells,
     }
 }

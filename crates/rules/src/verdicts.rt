@@ -12,6 +12,8 @@ ghost use Rattle.refusals.specs.Activities.{actuatorNamed, guardRules, function
 ghost use Rattle.refusals.specs.Rules.{Env, rules};
 ghost use Rattle.refusals.specs.Twice.{twiceOf};
 ghost use Rattle.text.specs.Items.{itemsFrom};
+ghost use Rattle.kept.specs.Kept.{Kept};
+ghost use Rattle.names.specs.Index.{Indexed};
 ghost use Rattle.names.specs.Tables.{rowsIn};
 ghost use Rattle.activities.specs.Kept.{callChecks, updateChecks, targetChecks};
 ghost use Rattle.activities.specs.Operands.{pairOf};
@@ -42,7 +44,7 @@ fn call_rules(
     name: Name,
     count: usize,
 ) -> Verdict
-    ensures { λ r. ⌜ r ≡ first (callChecks (rowsIn (now (cells .entry)) n) (eqb (twiceOf (take (oneMore activityRoom calls) (now (tasks .entry)))) calls) (taskNamed (now (s .entry)) (rowsIn (now (cells .entry)) n) name) name count) ⌝ }
+    ensures { λ r. ⌜ (Indexed (now (s .entry)) (now (cells .entry)) → r ≡ first (callChecks (rowsIn (now (cells .entry)) n) (eqb (twiceOf (take (oneMore activityRoom calls) (now (tasks .entry)))) calls) (taskNamed (now (s .entry)) (rowsIn (now (cells .entry)) n) name) name count)) ⌝ }
 {
     let task = meanings::task_named(s, cells, n, name);
     let all = noting::more(32, calls);
@@ -60,7 +62,7 @@ fn update_rules(
     name: Name,
     source: Port,
 ) -> Verdict
-    ensures { λ r. ⌜ r ≡ first (updateChecks (eqb (twiceOf (take (oneMore activityRoom updates) (now (aims .entry)))) updates) (actuatorNamed (now (s .entry)) (rowsIn (now (cells .entry)) n) name) name ++ portRules (now (s .entry)) (rowsIn (now (cells .entry)) n) (actuatorNamed (now (s .entry)) (rowsIn (now (cells .entry)) n) name .typ) source) ⌝ }
+    ensures { λ r. ⌜ (Indexed (now (s .entry)) (now (cells .entry)) → r ≡ first (updateChecks (eqb (twiceOf (take (oneMore activityRoom updates) (now (aims .entry)))) updates) (actuatorNamed (now (s .entry)) (rowsIn (now (cells .entry)) n) name) name ++ portRules (now (s .entry)) (rowsIn (now (cells .entry)) n) (actuatorNamed (now (s .entry)) (rowsIn (now (cells .entry)) n) name .typ) source)) ⌝ }
 {
     let actuator = meanings::named(s, cells, n, Scope::Numbered(0), 2, name);
     let all = noting::more(32, updates);
@@ -88,7 +90,7 @@ fn operand_wanted(left: usize, operand: usize) -> usize
 
 // A guard's operand.
 fn operand_rules(s: &[u8], cells: &[usize], n: usize, known: Known, port: Port) -> Verdict
-    ensures { λ r. ⌜ r ≡ first (argumentRules (now (s .entry)) (rowsIn (now (cells .entry)) n) (getD (pairOf (known .left) (known .operand)) 0 noType) port) ⌝ }
+    ensures { λ r. ⌜ (Indexed (now (s .entry)) (now (cells .entry)) → r ≡ first (argumentRules (now (s .entry)) (rowsIn (now (cells .entry)) n) (getD (pairOf (known .left) (known .operand)) 0 noType) port)) ⌝ }
 {
     let wanted = operand_wanted(known.left, known.operand);
     ports::argument_rules(s, cells, n, wanted, port)
@@ -96,7 +98,7 @@ fn operand_rules(s: &[u8], cells: &[usize], n: usize, known: Known, port: Port) 
 
 // An argument of a task.
 fn input_rules(s: &[u8], cells: &[usize], n: usize, known: Known, port: Port) -> Verdict
-    ensures { λ r. ⌜ r ≡ first (portRules (now (s .entry)) (rowsIn (now (cells .entry)) n) (getD (types (isPortOf (taskScope (known .task)) inputSort) (rowsIn (now (cells .entry)) n)) (known .index) noType) port) ⌝ }
+    ensures { λ r. ⌜ (Indexed (now (s .entry)) (now (cells .entry)) → r ≡ first (portRules (now (s .entry)) (rowsIn (now (cells .entry)) n) (getD (types (isPortOf (taskScope (known .task)) inputSort) (rowsIn (now (cells .entry)) n)) (known .index) noType) port)) ⌝ }
 {
     let wanted = names::type_of(
         cells,
@@ -110,17 +112,28 @@ fn input_rules(s: &[u8], cells: &[usize], n: usize, known: Known, port: Port) ->
     ports::port_rules(s, cells, n, wanted, port)
 }
 
-// The target of a switch, with the items from here on.
-fn switch_rules(s: &[u8], cells: &[usize], n: usize, state: State, at: usize, name: Name) -> Verdict
-    ensures { λ r. ⌜ r ≡ first (targetChecks (isTarget (now (s .entry)) (rowsIn (now (cells .entry)) n) (itemsFrom (now (s .entry)) state at) name) name) ⌝ }
+// The target of a switch, with the items from here on, the first of which is item k.
+fn switch_rules<'a>(
+    s: &'a [u8],
+    memo: &'a [usize],
+    k: usize,
+    cells: &[usize],
+    n: usize,
+    state: State,
+    at: usize,
+    name: Name,
+) -> Verdict
+    ensures { λ r. ⌜ (Indexed (now (s .entry)) (now (cells .entry)) → Kept (now (s .entry)) (now (memo .entry)) → r ≡ first (targetChecks (isTarget (now (s .entry)) (rowsIn (now (cells .entry)) n) (itemsFrom (now (s .entry)) state at) name) name)) ⌝ }
 {
-    let mode = targets::is_mode(s, cells, n, state, at, name);
+    let mode = targets::is_mode(s, cells, n, memo, k, state, at, name);
     acts::target_rules(mode, name)
 }
 
-// What an item breaks.
-pub fn item_rules(
-    s: &[u8],
+// What item k breaks.
+pub fn item_rules<'a>(
+    s: &'a [u8],
+    memo: &'a [usize],
+    k: usize,
     cells: &[usize],
     n: usize,
     rates: &[usize],
@@ -131,7 +144,7 @@ pub fn item_rules(
     known: Known,
     item: Item,
 ) -> Verdict
-    ensures { λ r. ⌜ ((all : List Row) (env : Env) → Meets (now (s .entry)) all env state place known item (now (cells .entry)) n (now (rates .entry)) (now (tasks .entry)) (now (aims .entry)) → r ≡ first (rules (now (s .entry)) all env item)) ⌝ }
+    ensures { λ r. ⌜ (Kept (now (s .entry)) (now (memo .entry)) → (all : List Row) (env : Env) → Meets (now (s .entry)) all env state place known item (now (cells .entry)) n (now (rates .entry)) (now (tasks .entry)) (now (aims .entry)) → r ≡ first (rules (now (s .entry)) all env item)) ⌝ }
 {
     match item {
         Item::Module(name) => judging::name_rules(name),
@@ -192,7 +205,7 @@ pub fn item_rules(
             actuator,
             source,
         ),
-        Item::Switch(name) => switch_rules(s, cells, n, state, place, name),
+        Item::Switch(name) => switch_rules(s, memo, k, cells, n, state, place, name),
         Item::ModeEnd => Verdict::Fine,
         Item::ModuleEnd => Verdict::Fine,
         Item::End => activities::end_rules(known.started, s.len()),

@@ -1,9 +1,11 @@
 // The target of a switch: whether its name means a mode, which may be declared further on.
-// Promises that the answer is that of the names declared so far, or else of the first mode of that name in the items to come, for every text and every place.
-// Builds on the items of a text, on the table of names, and on what the rules say of a name.
+// Promises that the answer is that of the names declared so far, or else of the first mode of that name in the items to come, for every text whose items are kept, every table whose index is right for it, and every place.
+// Builds on the kept items of a text, on the table of names, and on what the rules say of a name.
 ghost use mathlib.Core.Path.{_≡_};
 ghost use Rattle.text.specs.Items.{goes as goesOn, itemsFrom};
 ghost use Rattle.refusals.specs.Names.{letters};
+ghost use Rattle.kept.specs.Kept.{Kept};
+ghost use Rattle.names.specs.Index.{Indexed};
 ghost use Rattle.names.specs.Tables.{rowsIn};
 ghost use Rattle.targets.specs.Ahead.{begins as beginsMode, modeAhead, isTarget};
 use names::Scope;
@@ -40,22 +42,35 @@ pub fn goes(item: Item) -> bool
     true
 }
 
-// Whether one of the items from a place on begins a mode of the name sought.
-fn ahead(s: &[u8], state: State, at: usize, sought: Name) -> bool
-    ensures { λ r. ⌜ r ≡ modeAhead (now (s .entry)) (letters (now (s .entry)) sought) (itemsFrom (now (s .entry)) state at) ⌝ }
+// Whether one of the items from a place on begins a mode of the name sought; the first of them is item k.
+fn ahead<'a>(
+    s: &'a [u8],
+    memo: &'a [usize],
+    k: usize,
+    state: State,
+    at: usize,
+    sought: Name,
+) -> bool
+    ensures { λ r. ⌜ (Kept (now (s .entry)) (now (memo .entry)) → r ≡ modeAhead (now (s .entry)) (letters (now (s .entry)) sought) (itemsFrom (now (s .entry)) state at)) ⌝ }
 {
+    let mut number = k;
     let mut behind = state;
     let mut place = at;
     while place <= s.len() {
-        let read = items::item(s, behind, place);
+        let read = kept::item(s, memo, number, behind, place);
         let found = read.item;
         if begins(s, found, sought) {
             return true;
         }
         if goes(found) {
-            let next = read.state;
-            behind = next;
-            place = read.next;
+            let next = read.next;
+            if next <= place {
+                return false;
+            }
+            let after = read.state;
+            number = std::num::wrapping_add_usize(number, 1);
+            behind = after;
+            place = next;
         } else {
             return false;
         }
@@ -63,13 +78,22 @@ fn ahead(s: &[u8], state: State, at: usize, sought: Name) -> bool
     false
 }
 
-// Whether a name means a mode: by the first n names, or else by the items from a place on.
-pub fn is_mode(s: &[u8], cells: &[usize], n: usize, state: State, at: usize, name: Name) -> bool
-    ensures { λ r. ⌜ r ≡ isTarget (now (s .entry)) (rowsIn (now (cells .entry)) n) (itemsFrom (now (s .entry)) state at) name ⌝ }
+// Whether a name means a mode: by the first n names, or else by the items from a place on, the first of which is item k.
+pub fn is_mode<'a>(
+    s: &'a [u8],
+    cells: &[usize],
+    n: usize,
+    memo: &'a [usize],
+    k: usize,
+    state: State,
+    at: usize,
+    name: Name,
+) -> bool
+    ensures { λ r. ⌜ (Indexed (now (s .entry)) (now (cells .entry)) → Kept (now (s .entry)) (now (memo .entry)) → r ≡ isTarget (now (s .entry)) (rowsIn (now (cells .entry)) n) (itemsFrom (now (s .entry)) state at) name) ⌝ }
 {
     let row = names::find(s, cells, n, Scope::Numbered(0), name.start, name.end);
     if row.sort < 7 {
         return row.sort == 4;
     }
-    ahead(s, state, at, name)
+    ahead(s, memo, k, state, at, name)
 }

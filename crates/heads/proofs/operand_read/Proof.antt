@@ -22,7 +22,7 @@ with-acting-requires : tie.Need-with-acting-requires
 with-acting-requires c κs = search needs
 
 returns : tie.Need-returns
-returns c = c .with-acting .ensures ∙ ap (λ a. withActing (c .before .before .before .before .before .before .before .before .args .plan) a) (c .before .with-operand .ensures ∙ ap₂ (λ (p w : ℕ). withOperand (c .before .before .before .before .before .before .before .before .args .plan .acting) p w) (c .before .before .before .place-of .ensures ∙ ap placeOf (c .before .before .before .before .before .argument-named .ensures)) (c .before .before .word-in .ensures ∙ ap wordIn (c .before .before .before .before .before .argument-named .ensures)))
+returns c ix = c .with-acting .ensures ∙ ap (λ a. withActing (c .before .before .before .before .before .before .before .before .args .plan) a) (c .before .with-operand .ensures ∙ ap₂ (λ (p w : ℕ). withOperand (c .before .before .before .before .before .before .before .before .args .plan .acting) p w) (c .before .before .before .place-of .ensures ∙ ap placeOf (c .before .before .before .before .before .argument-named .ensures ix)) (c .before .before .word-in .ensures ∙ ap wordIn (c .before .before .before .before .before .argument-named .ensures ix)))
 
 pub operand-read-spec : {M : Type 1} → statement M
 operand-read-spec =

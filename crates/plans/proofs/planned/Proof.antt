@@ -101,19 +101,19 @@ same-length : tie.Need-same-length
 same-length c = search needs
 
 returns : tie.Need-returns
-returns c = rw (c .before .before .before .before .enum-told .given .1, c .before .before .task-ended .ensures .kept, c .before .before .task-ended .ensures .row) refl
+returns c ix = rw (c .before .before .before .before .enum-told .given .1, c .before .before .task-ended .ensures .kept, c .before .before .task-ended .ensures .row) refl
 
 returns-2 : tie.Need-returns-2
-returns-2 c = rw (c .before .before .item .given .1, c .mode-begun .ensures) refl
+returns-2 c ix = rw (c .before .before .item .given .1, c .mode-begun .ensures) refl
 
 returns-3 : tie.Need-returns-3
-returns-3 c = rw (c .before .before .item2 .given .1, c .activity-begun .ensures) refl
+returns-3 c ix = rw (c .before .before .item2 .given .1, c .activity-begun .ensures) refl
 
 returns-4 : tie.Need-returns-4
-returns-4 c = rw (c .before .before .item3 .given .1, c .guard-named .ensures) refl
+returns-4 c ix = rw (c .before .before .item3 .given .1, c .guard-named .ensures) refl
 
 returns-5 : tie.Need-returns-5
-returns-5 c = rw (c .before .before .item4 .given .1, c .operand-read .ensures) refl
+returns-5 c ix = rw (c .before .before .item4 .given .1, c .operand-read .ensures ix) refl
 
 same-length-2 : tie.Need-same-length-2
 same-length-2 c = search needs
@@ -125,13 +125,13 @@ same-length-4 : tie.Need-same-length-4
 same-length-4 c = search needs
 
 returns-6 : tie.Need-returns-6
-returns-6 c = rw (c .before .before .before .before .before .before .before .before .before .before .before .item5 .given .1, c .before .before .before .before .before .before .invoked .ensures .kept, c .before .before .before .before .before .before .invoked .ensures .guard-row, c .before .before .before .before .before .before .invoked .ensures .driver-row, c .before .before .before .before .before .before .invoked .ensures .act-row) refl
+returns-6 c ix = rw (c .before .before .before .before .before .before .before .before .before .before .before .item5 .given .1, c .before .before .before .before .before .before .invoked .ensures ix .kept, c .before .before .before .before .before .before .invoked .ensures ix .guard-row, c .before .before .before .before .before .before .invoked .ensures ix .driver-row, c .before .before .before .before .before .before .invoked .ensures ix .act-row) refl
 
 same-length-5 : tie.Need-same-length-5
 same-length-5 c = search needs
 
 returns-7 : tie.Need-returns-7
-returns-7 c = rw (c .before .before .before .before .before .item6 .given .1, c .before .before .source-read .ensures .kept, c .before .before .source-read .ensures .row) refl
+returns-7 c ix = rw (c .before .before .before .before .before .item6 .given .1, c .before .before .source-read .ensures ix .kept, c .before .before .source-read .ensures ix .row) refl
 
 same-length-6 : tie.Need-same-length-6
 same-length-6 c = search needs
@@ -143,7 +143,7 @@ same-length-8 : tie.Need-same-length-8
 same-length-8 c = search needs
 
 returns-8 : tie.Need-returns-8
-returns-8 c = rw (c .before .before .before .before .before .before .before .before .before .before .before .item7 .given .1, c .before .before .before .before .before .before .updated .ensures .kept, c .before .before .before .before .before .before .updated .ensures .guard-row, c .before .before .before .before .before .before .updated .ensures .driver-row, c .before .before .before .before .before .before .updated .ensures .act-row) refl
+returns-8 c ix = rw (c .before .before .before .before .before .before .before .before .before .before .before .item7 .given .1, c .before .before .before .before .before .before .updated .ensures ix .kept, c .before .before .before .before .before .before .updated .ensures ix .guard-row, c .before .before .before .before .before .before .updated .ensures ix .driver-row, c .before .before .before .before .before .before .updated .ensures ix .act-row) refl
 
 same-length-9 : tie.Need-same-length-9
 same-length-9 c = search needs
@@ -152,7 +152,7 @@ same-length-10 : tie.Need-same-length-10
 same-length-10 c = search needs
 
 returns-9 : tie.Need-returns-9
-returns-9 c = rw (c .before .before .before .before .before .before .before .before .item8 .given .1, c .before .before .before .before .switched .ensures .kept, c .before .before .before .before .switched .ensures .guard-row, c .before .before .before .before .switched .ensures .act-row) refl
+returns-9 c ix = rw (c .before .before .before .before .before .before .before .before .item8 .given .1, c .before .before .before .before .switched .ensures ix .kept, c .before .before .before .before .switched .ensures ix .guard-row, c .before .before .before .before .switched .ensures ix .act-row) refl
 
 same-length-11 : tie.Need-same-length-11
 same-length-11 c = search needs
@@ -164,40 +164,40 @@ same-length-13 : tie.Need-same-length-13
 same-length-13 c = search needs
 
 returns-10 : tie.Need-returns-10
-returns-10 c = rw (c .before .before .before .before .before .before .before .before .before .before .enum-told2 .given .1, c .before .before .before .before .before .before .mode-ended .ensures .kept, c .before .before .before .before .before .before .mode-ended .ensures .name, c .before .before .before .before .before .before .mode-ended .ensures .head, c .before .before .before .before .before .before .mode-ended .ensures .frame) refl
+returns-10 c ix = rw (c .before .before .before .before .before .before .before .before .before .before .enum-told2 .given .1, c .before .before .before .before .before .before .mode-ended .ensures .kept, c .before .before .before .before .before .before .mode-ended .ensures .name, c .before .before .before .before .before .before .mode-ended .ensures .head, c .before .before .before .before .before .before .mode-ended .ensures .frame) refl
 
 returns-11 : tie.Need-returns-11
-returns-11 c = rw (c .enum-told3 .given .1) refl
+returns-11 c ix = rw (c .enum-told3 .given .1) refl
 
 returns-12 : tie.Need-returns-12
-returns-12 c = rw (c .enum-told4 .given .1) refl
+returns-12 c ix = rw (c .enum-told4 .given .1) refl
 
 returns-13 : tie.Need-returns-13
-returns-13 c = rw (c .enum-told5 .given .1) refl
+returns-13 c ix = rw (c .enum-told5 .given .1) refl
 
 returns-14 : tie.Need-returns-14
-returns-14 c = rw (c .enum-told6 .given .1) refl
+returns-14 c ix = rw (c .enum-told6 .given .1) refl
 
 returns-15 : tie.Need-returns-15
-returns-15 c = rw (c .enum-told7 .given .1) refl
+returns-15 c ix = rw (c .enum-told7 .given .1) refl
 
 returns-16 : tie.Need-returns-16
-returns-16 c = rw (c .enum-told8 .given .1) refl
+returns-16 c ix = rw (c .enum-told8 .given .1) refl
 
 returns-17 : tie.Need-returns-17
-returns-17 c = rw (c .enum-told9 .given .1) refl
+returns-17 c ix = rw (c .enum-told9 .given .1) refl
 
 returns-18 : tie.Need-returns-18
-returns-18 c = rw (c .enum-told10 .given .1) refl
+returns-18 c ix = rw (c .enum-told10 .given .1) refl
 
 returns-19 : tie.Need-returns-19
-returns-19 c = rw (c .enum-told11 .given .1) refl
+returns-19 c ix = rw (c .enum-told11 .given .1) refl
 
 returns-20 : tie.Need-returns-20
-returns-20 c = rw (c .enum-told12 .given .1) refl
+returns-20 c ix = rw (c .enum-told12 .given .1) refl
 
 returns-21 : tie.Need-returns-21
-returns-21 c = rw (c .enum-told13 .given .1) refl
+returns-21 c ix = rw (c .enum-told13 .given .1) refl
 
 pub planned-spec : {M : Type 1} → statement M
 planned-spec =

@@ -5,6 +5,12 @@ use borrow.Author.Needs.{needs}
 use Rattle.ports.proofs.placed.Statement.{statement}
 use Rattle.ports.proofs.placed.Tie as tie
 
+still-requires : tie.Need-still-requires
+still-requires c κs = search needs
+
+returns : tie.Need-returns
+returns c ix = c .before .still .ensures (c .if1 .taken) .same _ _ _
+
 counted-requires : tie.Need-counted-requires
 counted-requires c κs = search needs
 
@@ -47,13 +53,15 @@ same-length-8 c = search needs
 same-length-9 : tie.Need-same-length-9
 same-length-9 c = search needs
 
-returns : tie.Need-returns
-returns c = boards (c .before .before .before .before .before .before .before .before .before .before .before .before .before .before .before .before .before .before .before .before .before .before .before .before .before .before .before .before .before .before .before .counted .ensures) (c .before .before .before .before .before .before .before .before .before .before .before .before .before .before .before .before .before .before .before .before .before .before .before .before .titled .ensures) (c .before .before .before .before .before .before .before .before .before .before .lane .ensures ∙ c .before .before .before .before .before .before .before .before .before .before .before .before .before .before .before .before .before .before .before .before .before .before .before .before .before .before .before .before .before .before .port-of .ensures .made _ _) (c .before .before .rowed .ensures) ∙ parts _ _ (c .before .before .before .before .before .before .before .before .before .before .before .before .before .before .before .before .before .before .before .before .before .before .before .before .before .before .before .before .before .before .before .before .before .before .before .before .before .before .before .before .before .before .before .args .item) _ _ _ _
+returns-2 : tie.Need-returns-2
+returns-2 c ix = boards (c .before .before .before .before .before .before .before .before .before .before .before .before .before .before .before .before .before .before .before .before .before .before .before .before .before .before .before .before .before .before .before .counted .ensures) (c .before .before .before .before .before .before .before .before .before .before .before .before .before .before .before .before .before .before .before .before .before .before .before .before .titled .ensures) (c .before .before .before .before .before .before .before .before .before .before .lane .ensures ∙ c .before .before .before .before .before .before .before .before .before .before .before .before .before .before .before .before .before .before .before .before .before .before .before .before .before .before .before .before .before .before .port-of .ensures ix .made _ _) (c .before .before .rowed .ensures) ∙ parts _ _ (c .before .before .before .before .before .before .before .before .before .before .before .before .before .before .before .before .before .before .before .before .before .before .before .before .before .before .before .before .before .before .before .before .before .before .before .before .before .before .before .before .before .before .before .before .before .args .item) _ _ _ _
 
 pub placed-spec : {M : Type 1} → statement M
 placed-spec =
     tie.close
     (tie.spec
+    still-requires
+    returns
     counted-requires
     port-of-requires
     titled-requires
@@ -68,4 +76,4 @@ placed-spec =
     same-length-7
     same-length-8
     same-length-9
-    returns)
+    returns-2)

@@ -1,3 +1,4 @@
+use Rattle.noting.specs.Rowed.{rowed-index}
 use Rattle.rules.specs.Going.{meets, goes-out, goes-stop, goes-on}
 use Rattle.refusals.specs.Checks.{isFine}
 use native.Mathlib.Omega.{arith}
@@ -34,13 +35,13 @@ same-length-4 : tie.Need-same-length-4
 same-length-4 c = search needs
 
 returns : tie.Need-returns
-returns c =
-    let start = c .before .before .before .before .before .before .before .before .before .before .before .before .before .before .before .before .before .before .before .before .before .before .before .before in
+returns c = λ kept going.
     let read = c .before .before .before .before .before .before .before .before .before .before .before .before .before .before .before .before .before .before .item in
     let laid = c .before .before .before .before .before .before .before .before .before .before .before .before .before .laid in
     let judged = c .before .before .item-rules in
-    let m = meets (start .pre) _ (read .ensures) (laid .ensures) in
-    goes-out (start .pre) _ (read .ensures) _ (judged .ensures _ _ m) (ap isFine (c .enum-told2 .given .1))
+    let ix = rowed-index (going .rowed) in
+    let m = meets going _ (read .ensures kept) (laid .ensures ix) in
+    goes-out going _ (read .ensures kept) _ (judged .ensures kept _ _ m) (ap isFine (c .enum-told2 .given .1))
 
 goes-requires : tie.Need-goes-requires
 goes-requires c κs = search needs
@@ -67,14 +68,14 @@ same-length-8 : tie.Need-same-length-8
 same-length-8 c = search needs
 
 returns-2 : tie.Need-returns-2
-returns-2 c =
-    let start = c .before .before .before .before .before .before .before .before .before .before .before .before .before .before .before .before .before .before .before .before .before .before .before .before .before .before .before .before .before .before .before .before .before .before in
+returns-2 c = λ kept going.
     let read = c .before .before .before .before .before .before .before .before .before .before .before .before .before .before .before .before .before .before .before .before .before .before .before .before .before .before .before .before .item in
     let laid = c .before .before .before .before .before .before .before .before .before .before .before .before .before .before .before .before .before .before .before .before .before .before .before .laid in
     let judged = c .before .before .before .before .before .before .before .before .before .before .before .before .item-rules in
-    let m = meets (start .pre) _ (read .ensures) (laid .ensures) in
-    let fine = sym (judged .ensures _ _ m) ∙ c .before .before .before .before .before .before .before .before .before .before .enum-told .given .1 in
-    goes-on (start .pre) _ (read .ensures) (laid .ensures) fine (sym (c .before .before .before .before .before .before .before .before .before .goes .ensures) ∙ c .before .before .before .before .before .before .before .before .if1 .taken) (c .before .before .before .before .before .before .declared .result) (c .before .before .before .before .before .before .declared .ensures) (c .before .before .entered .ensures) (c .before .before .before .before .noted .ensures)
+    let ix = rowed-index (going .rowed) in
+    let m = meets going _ (read .ensures kept) (laid .ensures ix) in
+    let fine = sym (judged .ensures kept _ _ m) ∙ c .before .before .before .before .before .before .before .before .before .before .enum-told .given .1 in
+    goes-on going _ (read .ensures kept) (laid .ensures ix) fine (sym (c .before .before .before .before .before .before .before .before .before .goes .ensures) ∙ c .before .before .before .before .before .before .before .before .if1 .taken) (c .before .before .before .before .before .before .declared .result) (c .before .before .before .before .before .before .declared .ensures ix) (c .before .before .entered .ensures) (c .before .before .before .before .noted .ensures ix)
 
 same-length-9 : tie.Need-same-length-9
 same-length-9 c = search needs
@@ -89,14 +90,14 @@ same-length-12 : tie.Need-same-length-12
 same-length-12 c = search needs
 
 returns-3 : tie.Need-returns-3
-returns-3 c =
-    let start = c .before .before .before .before .before .before .before .before .before .before .before .before .before .before .before .before .before .before .before .before .before .before .before .before .before .before in
+returns-3 c = λ kept going.
     let read = c .before .before .before .before .before .before .before .before .before .before .before .before .before .before .before .before .before .before .before .before .item in
     let laid = c .before .before .before .before .before .before .before .before .before .before .before .before .before .before .before .laid in
     let judged = c .before .before .before .before .item-rules in
-    let m = meets (start .pre) _ (read .ensures) (laid .ensures) in
-    let fine = sym (judged .ensures _ _ m) ∙ c .before .before .enum-told .given .1 in
-    goes-stop (start .pre) _ (read .ensures) fine (sym (c .before .goes .ensures) ∙ c .if1 .left)
+    let ix = rowed-index (going .rowed) in
+    let m = meets going _ (read .ensures kept) (laid .ensures ix) in
+    let fine = sym (judged .ensures kept _ _ m) ∙ c .before .before .enum-told .given .1 in
+    goes-stop going _ (read .ensures kept) fine (sym (c .before .goes .ensures) ∙ c .if1 .left)
 
 pub step-spec : {M : Type 1} → statement M
 step-spec =

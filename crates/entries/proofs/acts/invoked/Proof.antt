@@ -76,14 +76,14 @@ same-length-3 : tie.Need-same-length-3
 same-length-3 c = search needs
 
 returns : tie.Need-returns
-returns c = let p = c .before .before .before .before .before .before .before .before .before .before .before .before .before .before .before .before .before .before .before .before .before .before .before .before .before .before .before .before .before .before .before .before .before .args .plan in
+returns c ix = let p = c .before .before .before .before .before .before .before .before .before .before .before .before .before .before .before .before .before .before .before .before .before .before .before .before .before .before .before .before .before .before .before .before .before .args .plan in
     record {
       kept = c .act-done .ensures ∙ ap (λ o. acted p o) (c .before .counted .ensures ∙ ap (λ (n : ℕ). countedIn (p .opened) n (p .opened .updates) (p .opened .switches) 0) (c .before .before .more .ensures));
       guard-row = c .before .before .before .before .before .before .before .before .before .before .before .before .before .before .before .before .before .before .before .before .before .guard .ensures;
-      driver-row = c .before .before .before .before .before .before .before .before .before .before .before .before .before .before .release .ensures ∙ rw (c .before .before .before .before .before .before .before .before .before .before .before .before .before .before .before .before .before .before .wide32 .ensures .0, c .before .before .before .before .before .before .before .before .before .before .before .before .before .before .before .before .before .wide322 .ensures .0, c .before .before .before .before .before .before .before .before .before .before .before .before .before .before .before .before .wide323 .ensures .0, c .before .before .before .before .before .before .before .before .before .before .before .before .before .before .before .before .before .before .before .before .before .before .before .before .before .before .clamp .ensures, c .before .before .before .before .before .before .before .before .before .before .before .before .before .before .before .before .before .before .before .before .before .before .before .before .before .before .before .task-named .ensures) refl;
+      driver-row = c .before .before .before .before .before .before .before .before .before .before .before .before .before .before .release .ensures ∙ rw (c .before .before .before .before .before .before .before .before .before .before .before .before .before .before .before .before .before .before .wide32 .ensures .0, c .before .before .before .before .before .before .before .before .before .before .before .before .before .before .before .before .before .wide322 .ensures .0, c .before .before .before .before .before .before .before .before .before .before .before .before .before .before .before .before .wide323 .ensures .0, c .before .before .before .before .before .before .before .before .before .before .before .before .before .before .before .before .before .before .before .before .before .before .before .before .before .before .clamp .ensures, c .before .before .before .before .before .before .before .before .before .before .before .before .before .before .before .before .before .before .before .before .before .before .before .before .before .before .before .task-named .ensures ix) refl;
       act-row =
           c .before .before .before .before .before .act .ensures
-          ∙ rw (c .before .before .before .before .before .before .before .before .before .before .before .wide324 .ensures .0, c .before .before .before .before .before .before .before .before .before .before .wide325 .ensures .0, c .before .before .before .before .before .before .before .before .before .wide326 .ensures .0, c .before .before .before .before .before .before .before .before .wide327 .ensures .0, c .before .before .before .before .before .before .guard-cell .ensures, c .before .before .before .before .before .before .before .before .before .before .before .before .before .before .before .before .before .before .before .before .before .before .before .before .before .before .clamp .ensures, c .before .before .before .before .before .before .before .before .before .before .before .before .before .before .before .before .before .before .before .before .before .before .before .before .before .before .before .task-named .ensures) refl;
+          ∙ rw (c .before .before .before .before .before .before .before .before .before .before .before .wide324 .ensures .0, c .before .before .before .before .before .before .before .before .before .before .wide325 .ensures .0, c .before .before .before .before .before .before .before .before .before .wide326 .ensures .0, c .before .before .before .before .before .before .before .before .wide327 .ensures .0, c .before .before .before .before .before .before .guard-cell .ensures, c .before .before .before .before .before .before .before .before .before .before .before .before .before .before .before .before .before .before .before .before .before .before .before .before .before .before .clamp .ensures, c .before .before .before .before .before .before .before .before .before .before .before .before .before .before .before .before .before .before .before .before .before .before .before .before .before .before .before .task-named .ensures ix) refl;
     }
 
 pub invoked-spec : {M : Type 1} → statement M

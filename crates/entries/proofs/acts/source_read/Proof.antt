@@ -8,7 +8,7 @@ use Rattle.entries.proofs.acts.source_read.Tie as tie
 
 returns : tie.Need-returns
 unfolding fed sourceRead
-returns c = record { kept = simp (eq-eqb _ _ (c .if1 .taken)); row = simp (eq-eqb _ _ (c .if1 .taken)) }
+returns c ix = record { kept = simp (eq-eqb _ _ (c .if1 .taken)); row = simp (eq-eqb _ _ (c .if1 .taken)) }
 
 port-named-requires : tie.Need-port-named-requires
 port-named-requires c κs = search needs
@@ -48,9 +48,9 @@ same-length c = search needs
 
 returns-2 : tie.Need-returns-2
 unfolding fed sourceRead
-returns-2 c = record {
+returns-2 c ix = record {
   kept = simp (ne-eqb _ _ (c .before .before .before .before .before .before .before .before .before .before .before .before .if1 .left)) (rw (c .counted .ensures, c .before .more .ensures) refl);
-  row = c .before .before .before .before .source .ensures ∙ simp (ne-eqb _ _ (c .before .before .before .before .before .before .before .before .before .before .before .before .if1 .left)) (rw (c .before .before .before .before .before .before .before .before .before .wide32 .ensures .0, c .before .before .before .before .before .before .before .before .wide322 .ensures .0, c .before .before .before .before .before .before .wide323 .ensures .0, c .before .before .before .before .before .before .before .before .before .before .clamp .ensures, c .before .before .before .before .before .before .before .before .before .before .before .port-named .ensures) refl);
+  row = c .before .before .before .before .source .ensures ∙ simp (ne-eqb _ _ (c .before .before .before .before .before .before .before .before .before .before .before .before .if1 .left)) (rw (c .before .before .before .before .before .before .before .before .before .wide32 .ensures .0, c .before .before .before .before .before .before .before .before .wide322 .ensures .0, c .before .before .before .before .before .before .wide323 .ensures .0, c .before .before .before .before .before .before .before .before .before .before .clamp .ensures, c .before .before .before .before .before .before .before .before .before .before .before .port-named .ensures ix) refl);
 }
 
 pub source-read-spec : {M : Type 1} → statement M

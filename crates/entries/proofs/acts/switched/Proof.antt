@@ -58,11 +58,11 @@ same-length-2 : tie.Need-same-length-2
 same-length-2 c = search needs
 
 returns : tie.Need-returns
-returns c = let p = c .before .before .before .before .before .before .before .before .before .before .before .before .before .before .before .before .before .before .before .before .before .before .before .before .before .args .plan in
+returns c ix = let p = c .before .before .before .before .before .before .before .before .before .before .before .before .before .before .before .before .before .before .before .before .before .before .before .before .before .args .plan in
     record {
       kept = c .act-done .ensures ∙ ap (λ o. acted p o) (c .before .counted .ensures ∙ ap (λ (n : ℕ). countedIn (p .opened) (p .opened .calls) (p .opened .updates) n (p .opened .sources)) (c .before .before .more .ensures));
       guard-row = c .before .before .before .before .before .before .before .before .before .before .before .before .before .before .before .guard .ensures;
-      act-row = c .before .before .before .before .before .act .ensures ∙ rw (c .before .before .before .before .before .before .before .before .before .before .before .before .wide32 .ensures .0, c .before .before .before .before .before .before .before .before .before .before .before .wide322 .ensures .0, c .before .before .before .before .before .before .before .before .before .before .wide323 .ensures .0, c .before .before .before .before .before .before .before .before .before .wide324 .ensures .0, c .before .before .before .before .before .before .before .guard-cell .ensures, c .before .before .before .before .before .before .clamp .ensures, c .before .before .before .before .before .before .before .before .before .before .before .before .before .before .before .before .before .before .before .before .named .ensures) refl;
+      act-row = c .before .before .before .before .before .act .ensures ∙ rw (c .before .before .before .before .before .before .before .before .before .before .before .before .wide32 .ensures .0, c .before .before .before .before .before .before .before .before .before .before .before .wide322 .ensures .0, c .before .before .before .before .before .before .before .before .before .before .wide323 .ensures .0, c .before .before .before .before .before .before .before .before .before .wide324 .ensures .0, c .before .before .before .before .before .before .before .guard-cell .ensures, c .before .before .before .before .before .before .clamp .ensures, c .before .before .before .before .before .before .before .before .before .before .before .before .before .before .before .before .before .before .before .before .named .ensures ix) refl;
     }
 
 pub switched-spec : {M : Type 1} → statement M

@@ -38,22 +38,22 @@ typed-requires-4 c κs = search needs
 
 returns : tie.Need-returns
 unfolding placedBy portPut lanesBy
-returns c = rw (c .before .before .item .given .1, c .typed .ensures) (record { made = λ p l. refl })
+returns c ix = rw (c .before .before .item .given .1, c .typed .ensures) (record { made = λ p l. refl })
 
 returns-2 : tie.Need-returns-2
 unfolding placedBy portPut lanesBy
-returns-2 c = rw (c .before .before .before .item2 .given .1, c .typed2 .ensures, c .before .start-word .ensures) (record { made = λ p l. refl })
+returns-2 c ix = rw (c .before .before .before .item2 .given .1, c .typed2 .ensures, c .before .start-word .ensures ix) (record { made = λ p l. refl })
 
 returns-3 : tie.Need-returns-3
 unfolding placedBy portPut lanesBy
-returns-3 c = rw (c .before .before .item3 .given .1, c .typed3 .ensures) (record { made = λ p l. refl })
+returns-3 c ix = rw (c .before .before .item3 .given .1, c .typed3 .ensures) (record { made = λ p l. refl })
 
 returns-4 : tie.Need-returns-4
 unfolding placedBy portPut lanesBy
-returns-4 c = rw (c .before .before .before .item4 .given .1, c .typed4 .ensures, c .before .start-word2 .ensures) (record { made = λ p l. refl })
+returns-4 c ix = rw (c .before .before .before .item4 .given .1, c .typed4 .ensures, c .before .start-word2 .ensures ix) (record { made = λ p l. refl })
 
 returns-5 : tie.Need-returns-5
-returns-5 c = lanes-others _ _ (c .before .before .before .args .item) (c .match .keys5)
+returns-5 c ix = lanes-others _ _ (c .before .before .before .args .item) (c .match .keys5)
 
 pub port-of-spec : {M : Type 1} → statement M
 port-of-spec =

@@ -16,7 +16,7 @@ call-rules-requires : tie.Need-call-rules-requires
 call-rules-requires c κs = search needs
 
 returns : tie.Need-returns
-returns c = c .call-rules .ensures ∙ rw (c .before .twice .ensures, c .before .before .more .ensures, c .before .before .before .task-named .ensures)
+returns c = λ ix. c .call-rules .ensures _ ix ∙ rw (c .before .twice .ensures, c .before .before .more .ensures, c .before .before .before .task-named .ensures ix)
 
 pub call-rules-spec : {M : Type 1} → statement M
 call-rules-spec =

@@ -10,7 +10,7 @@ port-rules-requires : tie.Need-port-rules-requires
 port-rules-requires c κs = search needs
 
 returns : tie.Need-returns
-returns c = c .port-rules .ensures ∙ rw (c .before .type-of .ensures)
+returns c = λ ix. c .port-rules .ensures ix ∙ rw (c .before .type-of .ensures _ ix)
 
 pub input-rules-spec : {M : Type 1} → statement M
 input-rules-spec = tie.close (tie.spec type-of-requires port-rules-requires returns)

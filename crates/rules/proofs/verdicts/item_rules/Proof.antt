@@ -1,3 +1,4 @@
+use Rattle.noting.specs.Rowed.{rowed-index}
 use Rattle.rules.specs.Meets.{head-same, operand-same, call-same, input-same, update-same, switch-same}
 use Rattle.refusals.specs.Checks.{first}
 use mathlib.Core.Path.{ap, _∙_}
@@ -120,71 +121,71 @@ enum-told-5 : tie.Need-enum-told-5
 enum-told-5 c = search needs
 
 returns : tie.Need-returns
-returns c = λ all env m. rw (c .before .before .item .given .1) (c .name-rules .ensures)
+returns c = λ kept all env m. rw (c .before .before .item .given .1) (c .name-rules .ensures)
 
 returns-2 : tie.Need-returns-2
 unfolding first
-returns-2 c = λ all env m. rw (c .enum-told .given .1)
+returns-2 c = λ kept all env m. rw (c .enum-told .given .1)
 
 returns-3 : tie.Need-returns-3
-returns-3 c = λ all env m. rw (c .before .before .item2 .given .1) (c .constant-rules .ensures ∙ rw (m .rowed .same))
+returns-3 c = λ kept all env m. rw (c .before .before .item2 .given .1) (c .constant-rules .ensures (rowed-index (m .rowed)) ∙ rw (m .rowed .same))
 
 returns-4 : tie.Need-returns-4
-returns-4 c = λ all env m. rw (c .before .before .item3 .given .1) (c .sensor-rules .ensures ∙ rw (m .rowed .same))
+returns-4 c = λ kept all env m. rw (c .before .before .item3 .given .1) (c .sensor-rules .ensures (rowed-index (m .rowed)) ∙ rw (m .rowed .same))
 
 returns-5 : tie.Need-returns-5
-returns-5 c = λ all env m. rw (c .before .before .item4 .given .1) (c .actuator-rules .ensures ∙ rw (m .rowed .same))
+returns-5 c = λ kept all env m. rw (c .before .before .item4 .given .1) (c .actuator-rules .ensures (rowed-index (m .rowed)) ∙ rw (m .rowed .same))
 
 returns-6 : tie.Need-returns-6
-returns-6 c = λ all env m. rw (c .before .before .item5 .given .1) (c .new-rules .ensures ∙ rw (m .rowed .same))
+returns-6 c = λ kept all env m. rw (c .before .before .item5 .given .1) (c .new-rules .ensures (rowed-index (m .rowed)) ∙ rw (m .rowed .same))
 
 returns-7 : tie.Need-returns-7
-returns-7 c = λ all env m. rw (c .before .before .item6 .given .1) (c .input-rules .ensures ∙ rw (m .rowed .same))
+returns-7 c = λ kept all env m. rw (c .before .before .item6 .given .1) (c .input-rules .ensures (rowed-index (m .rowed)) ∙ rw (m .rowed .same))
 
 returns-8 : tie.Need-returns-8
-returns-8 c = λ all env m. rw (c .before .before .item7 .given .1) (c .output-rules .ensures ∙ rw (m .rowed .same))
+returns-8 c = λ kept all env m. rw (c .before .before .item7 .given .1) (c .output-rules .ensures (rowed-index (m .rowed)) ∙ rw (m .rowed .same))
 
 returns-9 : tie.Need-returns-9
-returns-9 c = λ all env m. rw (c .before .before .item8 .given .1) (c .name-rules2 .ensures)
+returns-9 c = λ kept all env m. rw (c .before .before .item8 .given .1) (c .name-rules2 .ensures)
 
 returns-10 : tie.Need-returns-10
-returns-10 c = λ all env m. rw (c .before .before .item9 .given .1) (c .mode-rules .ensures ∙ rw (m .rowed .same, m .drafted .started))
+returns-10 c = λ kept all env m. rw (c .before .before .item9 .given .1) (c .mode-rules .ensures (rowed-index (m .rowed)) ∙ rw (m .rowed .same, m .drafted .started))
 
 returns-11 : tie.Need-returns-11
-returns-11 c = λ all env m. let told = c .before .before .item10 .given .1 in rw told (c .head-rules .ensures ∙ ap first (head-same (rw told at m)))
+returns-11 c = λ kept all env m. let told = c .before .before .item10 .given .1 in rw told (c .head-rules .ensures ∙ ap first (head-same (rw told at m)))
 
 returns-12 : tie.Need-returns-12
-returns-12 c = λ all env m. rw (c .before .before .item11 .given .1) (c .guard-rules .ensures)
+returns-12 c = λ kept all env m. rw (c .before .before .item11 .given .1) (c .guard-rules .ensures)
 
 returns-13 : tie.Need-returns-13
-returns-13 c = λ all env m. let told = c .before .before .item12 .given .1 in rw told (c .operand-rules .ensures ∙ ap first (operand-same (rw told at m)))
+returns-13 c = λ kept all env m. let told = c .before .before .item12 .given .1 in rw told (c .operand-rules .ensures (rowed-index (m .rowed)) ∙ ap first (operand-same (rw told at m)))
 
 returns-14 : tie.Need-returns-14
-returns-14 c = λ all env m. let told = c .before .before .item13 .given .1 in rw told (c .call-rules .ensures ∙ ap first (call-same (rw told at m)))
+returns-14 c = λ kept all env m. let told = c .before .before .item13 .given .1 in rw told (c .call-rules .ensures (rowed-index (m .rowed)) ∙ ap first (call-same (rw told at m)))
 
 returns-15 : tie.Need-returns-15
-returns-15 c = λ all env m. let told = c .before .before .item14 .given .1 in rw told (c .input-rules2 .ensures ∙ ap first (input-same (rw told at m)))
+returns-15 c = λ kept all env m. let told = c .before .before .item14 .given .1 in rw told (c .input-rules2 .ensures (rowed-index (m .rowed)) ∙ ap first (input-same (rw told at m)))
 
 returns-16 : tie.Need-returns-16
-returns-16 c = λ all env m. let told = c .before .before .item15 .given .1 in rw told (c .update-rules .ensures ∙ ap first (update-same (rw told at m)))
+returns-16 c = λ kept all env m. let told = c .before .before .item15 .given .1 in rw told (c .update-rules .ensures (rowed-index (m .rowed)) ∙ ap first (update-same (rw told at m)))
 
 returns-17 : tie.Need-returns-17
-returns-17 c = λ all env m. let told = c .before .before .item16 .given .1 in rw told (c .switch-rules .ensures ∙ ap first (switch-same (rw told at m)))
+returns-17 c = λ kept all env m. let told = c .before .before .item16 .given .1 in rw told (c .switch-rules .ensures (rowed-index (m .rowed)) kept ∙ ap first (switch-same (rw told at m)))
 
 returns-18 : tie.Need-returns-18
 unfolding first
-returns-18 c = λ all env m. rw (c .enum-told2 .given .1)
+returns-18 c = λ kept all env m. rw (c .enum-told2 .given .1)
 
 returns-19 : tie.Need-returns-19
 unfolding first
-returns-19 c = λ all env m. rw (c .enum-told3 .given .1)
+returns-19 c = λ kept all env m. rw (c .enum-told3 .given .1)
 
 returns-20 : tie.Need-returns-20
-returns-20 c = λ all env m. rw (c .before .enum-told4 .given .1) (c .end-rules .ensures ∙ rw (m .drafted .started))
+returns-20 c = λ kept all env m. rw (c .before .enum-told4 .given .1) (c .end-rules .ensures ∙ rw (m .drafted .started))
 
 returns-21 : tie.Need-returns-21
 unfolding first
-returns-21 c = λ all env m. rw (c .enum-told5 .given .1)
+returns-21 c = λ kept all env m. rw (c .enum-told5 .given .1)
 
 pub item-rules-spec : {M : Type 1} → statement M
 item-rules-spec =

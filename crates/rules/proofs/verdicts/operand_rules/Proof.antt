@@ -10,7 +10,7 @@ argument-rules-requires : tie.Need-argument-rules-requires
 argument-rules-requires c κs = search needs
 
 returns : tie.Need-returns
-returns c = c .argument-rules .ensures ∙ rw (c .before .operand-wanted .ensures)
+returns c = λ ix. c .argument-rules .ensures ix ∙ rw (c .before .operand-wanted .ensures)
 
 pub operand-rules-spec : {M : Type 1} → statement M
 operand-rules-spec = tie.close (tie.spec operand-wanted-requires argument-rules-requires returns)

@@ -10,7 +10,7 @@ target-rules-requires : tie.Need-target-rules-requires
 target-rules-requires c κs = search needs
 
 returns : tie.Need-returns
-returns c = c .target-rules .ensures ∙ rw (c .before .is-mode .ensures)
+returns c = λ ix kept. c .target-rules .ensures ∙ rw (c .before .is-mode .ensures ix kept)
 
 pub switch-rules-spec : {M : Type 1} → statement M
 switch-rules-spec = tie.close (tie.spec is-mode-requires target-rules-requires returns)

@@ -16,7 +16,7 @@ update-rules-requires : tie.Need-update-rules-requires
 update-rules-requires c κs = search needs
 
 returns : tie.Need-returns
-returns c = c .update-rules .ensures ∙ rw (c .before .twice .ensures, c .before .before .more .ensures, c .before .before .before .named .ensures)
+returns c = λ ix. c .update-rules .ensures ix ∙ rw (c .before .twice .ensures, c .before .before .more .ensures, c .before .before .before .named .ensures ix)
 
 pub update-rules-spec : {M : Type 1} → statement M
 update-rules-spec =

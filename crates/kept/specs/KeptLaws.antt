@@ -1,0 +1,162 @@
+-- Laws of rows: the last of each kind, and one row more in an array.
+use Prim.Native.Nat.{ℕ, suc, _+_, _-_, _*_, _%_, _≤_, _<_}
+use mathlib.Core.Path.{_≡_, refl, sym, ap, _∙_}
+use mathlib.Core.List.{List, [], _∷_, _++_}
+use mathlib.Core.Bool.{Bool, true, false}
+use native.Mathlib.Omega.{arith}
+use borrow.Author.Tests.{ltb-true, ltb-false}
+use lib.Dec.{ltb}
+use lib.ListN.{length, getD, set, take, drop, length-append, List·getD-eq-default}
+use lib.Seq.{sets, sets-eq, length-sets, length-take-le, take-at, drop-at, drop-append-le, drop-set-lt, drop-set-add, take-set-le, getD-set-same}
+use Rattle.text.specs.declared.Name.{Name}
+use Rattle.text.specs.declared.State.{State}
+use Rattle.text.specs.declared.State.the-variants as Q
+use Rattle.text.specs.declared.Literal.{Literal}
+use Rattle.text.specs.declared.Literal.the-variants as L
+use Rattle.text.specs.declared.Item.the-variants as I
+use Rattle.text.specs.declared.ReadItem.{ReadItem}
+use Rattle.text.specs.Items.{itemAt}
+use Rattle.kept.specs.declared.storing.Fields.{Fields}
+use Rattle.kept.specs.declared.storing.Value.{Value}
+use Rattle.kept.specs.Rows.{states, stateOf, nameOf, literals, literalOf, declarations, declarationOf, acts, actOf, itemOf, readOf, shortOf, longOf, numbers}
+use Rattle.kept.specs.Kept.{rowOf, Right, Kept, Keeps}
+
+-- row k as it is lent, from its start up to its end
+abbrev pub lentOf : List ℕ → ℕ → List ℕ
+lentOf memo k = take (k * 16 + 16 + 16 - (k * 16 + 16)) (drop (k * 16 + 16) memo)
+
+-- ---- the last of each kind
+
+pub state-last : (n : ℕ) → 8 ≤ n % 16 → stateOf n ≡ Q.Finish
+unfolding stateOf
+state-last n h = List·getD-eq-default (states _) Q.Finish h
+
+pub literal-last : (kind at flag start end : ℕ) → 2 ≤ kind → literalOf kind at flag start end ≡ L.Named (nameOf start end)
+unfolding literalOf
+literal-last kind at flag start end h = List·getD-eq-default (literals at flag start end) _ h
+
+pub declaration-last : (kind : ℕ) (f : Fields) → 8 ≤ kind → declarationOf kind f ≡ I.TaskEnd (nameOf (f .one) (f .two))
+unfolding declarationOf
+declaration-last kind f h = List·getD-eq-default (declarations f) _ h
+
+pub act-last : (kind : ℕ) (f : Fields) → 11 ≤ kind → actOf kind f ≡ I.No (f .three % 256) (f .four)
+unfolding actOf
+act-last kind f h = List·getD-eq-default (acts f) _ h
+
+-- a byte is its own rest by 256
+pub byte-of : {r number : ℕ} → (r ≡ number) × (r < 256) → r % 256 ≡ number
+byte-of w = omega (arith, w .0, w .1)
+
+-- a number from k on that is not k is beyond it
+pub beyond : (k : ℕ) {n : ℕ} → k ≤ n → (n ≡ k → ⊥) → k + 1 ≤ n
+beyond k h e = omega (arith, e)
+
+-- ---- the numbers of an item give it back
+
+pub module-back : (name : Name) → itemOf (shortOf 0 (name .start) (name .end) 0 0 0 0 0) ≡ I.Module name
+unfolding itemOf declarationOf
+module-back name = refl
+
+module _ (value : Literal) (v : Value) (e : literalOf (v .kind) (v .at) (v .flag) (v .start) (v .end) ≡ value) where
+  pub constant-back : (name : Name) → itemOf (shortOf 2 (name .start) (name .end) (v .kind) (v .at) (v .flag) (v .start) (v .end)) ≡ I.Constant name value
+  unfolding itemOf declarationOf
+  constant-back name = ap (λ (l : Literal). I.Constant name l) e
+
+  pub actuator-back : (typ name setter : Name) → itemOf (longOf 4 typ name v setter) ≡ I.Actuator typ name value setter
+  unfolding itemOf declarationOf
+  actuator-back typ name setter = ap (λ (l : Literal). I.Actuator typ name l setter) e
+
+  pub output-back : (typ name last : Name) → itemOf (longOf 7 typ name v last) ≡ I.Output typ name value
+  unfolding itemOf declarationOf
+  output-back typ name last = ap (λ (l : Literal). I.Output typ name l) e
+
+pub sensor-back : (typ name getter : Name) → itemOf (shortOf 3 (typ .start) (typ .end) (name .start) (name .end) (getter .start) (getter .end) 0) ≡ I.Sensor typ name getter
+unfolding itemOf declarationOf
+sensor-back typ name getter = refl
+
+pub task-back : (name : Name) → itemOf (shortOf 5 (name .start) (name .end) 0 0 0 0 0) ≡ I.TaskBegin name
+unfolding itemOf declarationOf
+task-back name = refl
+
+pub input-back : (typ name last : Name) → itemOf (shortOf 6 (typ .start) (typ .end) (name .start) (name .end) (last .start) (last .end) 0) ≡ I.Input typ name
+unfolding itemOf declarationOf
+input-back typ name last = refl
+
+-- ---- a run of numbers written into an array
+
+run-new : (memo new : List ℕ) (at : ℕ) → at + length new ≤ length memo → take (length new) (drop at (sets memo at new)) ≡ new
+run-new memo new at h =
+    let long = length-take-le at memo (omega arith) in
+    rw (sets-eq new memo at h, drop-append-le at (take at memo ++ new) (drop (at + length new) memo) (omega (arith, long, length-append (take at memo) new)), drop-at (take at memo) new at long)
+    (take-at new _ (length new) refl)
+
+set-before : (l : List ℕ) (i j n a : ℕ) → j + n ≤ i → take n (drop j (set l i a)) ≡ take n (drop j l)
+set-before l i j n a h =
+    let e : i ≡ j + (i - j) = omega arith in
+    ap (λ (k : ℕ). take n (drop j (set l k a))) e ∙ ap (λ (m : List ℕ). take n m) (drop-set-add j l (i - j) a) ∙ take-set-le n (drop j l) (i - j) a (omega arith)
+
+run-before : (new memo : List ℕ) (at j n : ℕ) → j + n ≤ at → take n (drop j (sets memo at new)) ≡ take n (drop j memo)
+run-before [] memo at j n h = refl
+run-before (a ∷ new) memo at j n h = run-before new (set memo at a) (suc at) j n (omega arith) ∙ set-before memo at j n a h
+
+sets-both : (a b memo : List ℕ) (at n : ℕ) → length a ≡ n → sets (sets memo at a) (at + n) b ≡ sets memo at (a ++ b)
+sets-both [] b memo at n e = let z : at + n ≡ at = omega (arith, e) in rw z
+sets-both (x ∷ a) b memo at n e =
+    let z : at + n ≡ suc at + (n - 1) = omega (arith, e) in
+    rw z (sets-both a b (set memo at x) (suc at) (n - 1) (omega (arith, e)))
+
+-- four runs of four numbers
+pub fours : (memo : List ℕ) (at : ℕ) (a b c d : List ℕ) → length a ≡ 4 → length b ≡ 4 → length c ≡ 4
+    → sets (sets (sets (sets memo at a) (at + 4) b) (at + 4 + 4) c) (at + 4 + 4 + 4) d ≡ sets memo at (a ++ (b ++ (c ++ d)))
+fours memo at a b c d k l m =
+    sets-both c d (sets (sets memo at a) (at + 4) b) (at + 4 + 4) 4 m ∙ sets-both b (c ++ d) (sets memo at a) (at + 4) 4 l ∙ sets-both a (b ++ (c ++ d)) memo at 4 k
+
+-- ---- one row more
+
+module _ (memo new : List ℕ) (many : ℕ) (long : length new ≡ 16) (h : many * 16 + 32 ≤ length memo) where
+  -- the array with a row behind the first ones, and their number
+  abbrev more : List ℕ
+  more = set (sets memo (many * 16 + 16) new) 0 (many + 1)
+
+  more-count : getD more 0 0 ≡ many + 1
+  more-count = getD-set-same (sets memo (many * 16 + 16) new) 0 (many + 1) 0 (omega (arith, length-sets memo (many * 16 + 16) new))
+
+  more-last : rowOf more many ≡ new
+  unfolding rowOf
+  more-last =
+      rw (drop-set-lt (many * 16 + 16) (sets memo (many * 16 + 16) new) 0 (many + 1) (omega arith))
+      (ap (λ (n : ℕ). take n (drop (many * 16 + 16) (sets memo (many * 16 + 16) new))) (sym long) ∙ run-new memo new (many * 16 + 16) (omega arith))
+
+  more-first : (k : ℕ) → k < many → rowOf more k ≡ rowOf memo k
+  unfolding rowOf
+  more-first k g =
+      rw (drop-set-lt (k * 16 + 16) (sets memo (many * 16 + 16) new) 0 (many + 1) (omega arith))
+      (run-before new memo (many * 16 + 16) (k * 16 + 16) 16 (omega arith))
+
+-- what was read is kept in a row more
+pub row-keeps : (memo : List ℕ) (many : ℕ) (state : State) (at : ℕ) (read : ReadItem) (before behind : ℕ) (f : Fields) → many ≡ getD memo 0 0 → many * 16 + 32 ≤ length memo
+    → itemOf f ≡ read .item → stateOf before ≡ state → stateOf behind ≡ read .state
+    → Keeps state at read memo (set (sets memo (many * 16 + 16) (numbers before at behind (read .next) f)) 0 (many + 1))
+row-keeps memo many state at read before behind f m h i b n = record { on = λ s e kept. record { each = λ k l. by s e kept k (ltb k many) refl (rw (more-count memo new many refl h) at l) } }
+  where
+    new : List ℕ
+    new = numbers before at behind (read .next) f
+
+    by : (s : List ℕ) → read ≡ itemAt s state at → Kept s memo → (k : ℕ) (c : Bool) → ltb k many ≡ c → k < many + 1 → Right s (rowOf (more memo new many refl h) k)
+    by s e kept k true c l = rw (more-first memo new many refl h k (ltb-true k many c)) (kept .each k (rw m at (ltb-true k many c)))
+    by s e kept k false c l =
+        let same : k ≡ many = omega (arith, ltb-false k many c) in
+        rw (same, more-last memo new many refl h, i, b, n) e
+
+-- what row k tells, where it was read at this place and in this state
+pub fetched : {s memo : List ℕ} (k : ℕ) {state : State} {at : ℕ} {r : ReadItem} → Kept s memo → k < getD memo 0 0 → r ≡ readOf (lentOf memo k) → stateOf (getD (lentOf memo k) 1 0) ≡ state → getD (lentOf memo k) 2 0 ≡ at
+    → r ≡ itemAt s state at
+unfolding rowOf
+fetched {s} {memo} k {state} kept l e q p =
+    let z : k * 16 + 16 + 16 - (k * 16 + 16) ≡ 16 = omega arith in
+    let right : Right s (lentOf memo k) = rw z (kept .each k l) in
+    e ∙ right ∙ ap (λ (x : State). itemAt s x (getD (lentOf memo k) 2 0)) q ∙ ap (λ (n : ℕ). itemAt s state n) p
+
+-- an array without rows keeps the items of every text
+pub none-kept : (s memo : List ℕ) → getD memo 0 0 ≡ 0 → Kept s memo
+none-kept s memo z = record { each = λ k l. absurd (omega (arith, z, l)) }

@@ -1,0 +1,48 @@
+// The items of a text, kept in an array of numbers that is lent: the first pass fills it, and later walks fetch from it.
+// Promises that an item fetched is the item of the text at its place and state, for every array that the first pass left, and that the first pass answers with the leftmost 2 or 3.
+// Builds on the items of a text.
+ghost use Prim.Native.Nat.{_-_, _/_, min};
+ghost use lib.ListN.{length, getD};
+ghost use mathlib.Core.Path.{_≡_};
+ghost use Rattle.text.specs.Items.{itemAt};
+ghost use Rattle.kept.specs.Kept.{Kept};
+use text::ReadItem;
+use text::State;
+
+mod fetching;
+mod pass;
+mod states;
+mod storing;
+
+pub use pass::syntax;
+
+// How many rows the array holds: row k stands from 16 k + 16 on.
+fn held(memo: &[usize]) -> usize
+    ensures { λ r. ⌜ r ≡ min (getD (now (memo .entry)) 0 0) ((length (now (memo .entry)) - 16) / 16) ⌝ }
+{
+    if memo.len() < 16 {
+        return 0;
+    }
+    let room = (memo.len() - 16) / 16;
+    let many = memo[0];
+    if many < room {
+        return many;
+    }
+    room
+}
+
+// The item at a place, in a state: that of row k if the row is of this place and state.
+pub fn item<'a>(s: &'a [u8], memo: &'a [usize], k: usize, state: State, at: usize) -> ReadItem
+    ensures { λ r. ⌜ (Kept (now (s .entry)) (now (memo .entry)) → r ≡ itemAt (now (s .entry)) state at) ⌝ }
+{
+    let rows = held(memo);
+    if k < rows {
+        let first = k * 16 + 16;
+        let end = first + 16;
+        let row = &memo[first..end];
+        if fetching::is_of(row, state, at) {
+            return fetching::read(row);
+        }
+    }
+    items::item(s, state, at)
+}
