@@ -16,9 +16,8 @@ use Rattle.layout.specs.Filling.{padded-none, padded-zeros}
 use Rattle.layout.specs.Cells.{length-task-rows}
 use Rattle.text.specs.Items.{itemsOf, syntaxOf}
 use Rattle.refusals.specs.declared.Verdict.the-variants.{Fine}
-use Rattle.refusals.specs.Texts.{declaredBy, verdictOf, moduleOf}
+use Rattle.refusals.specs.Texts.{verdictOf, moduleOf}
 use Rattle.names.specs.Tables.{rowsIn}
-use Rattle.emit.specs.Held.{HoldsModes}
 use Rattle.accepted.specs.Folds.{allRows}
 use Rattle.accepted.specs.NamesFit.{names-fit}
 use Rattle.ports.specs.Boards.{Board}
@@ -29,8 +28,7 @@ use Rattle.sheets.specs.Whole.{Whole}
 use Rattle.sheets.specs.Rooms.{accepted-within, accepted-whole}
 use Rattle.build.specs.Walks.{boardRun, sheetRun}
 use Rattle.build.specs.Sections.{Tells}
-use Rattle.build.specs.Tables.{blankSheet, tableIn, builtOf}
-use Rattle.build.specs.declared.Built.{Built}
+use Rattle.build.specs.Tables.{blankSheet, tableIn}
 use Rattle.build.specs.Scheduled.{modes-walked, ports-walked}
 use Rattle.build.specs.Rooms.{twos, declared-within}
 
@@ -159,12 +157,3 @@ module _ (s cells : List ℕ) (all : ℕ) (there : rowsIn cells all ≡ allRows 
         «mode_rows» = heads i;
         code = no-code i;
       }
-
--- what is promised of a text and the rows of its names
-pub record Right (s cells : List ℕ) (all : ℕ) (r : Built) : Type 0 where
-  pub table : syntaxOf s ≡ none → verdictOf s ≡ Fine → rowsIn cells all ≡ declaredBy s (itemsOf s) → r .table ≡ structOf (uncoded (moduleOf s))
-  pub modes : syntaxOf s ≡ none → verdictOf s ≡ Fine → rowsIn cells all ≡ declaredBy s (itemsOf s) → HoldsModes (r .modes) (r .acts) 0 (moduleOf s .modes)
-
-pub built-right : (s cells : List ℕ) (all : ℕ) (r : Built) → r ≡ builtOf (boardRun s cells 0 (itemsOf s) blankBoard) (sheetRun s cells all 0 (itemsOf s) blankSheet) → Right s cells all r
-built-right s cells all r is =
-    rw is (record { table = λ e v there. table-right s cells all there e v; modes = λ e v there. plans-right s cells all there e v .modes-held })

@@ -1,21 +1,9 @@
 -- The arrays that the two walks fill, and where they begin.
 use Rattle.layout.specs.Rows.{zeros}
-use Rattle.ports.specs.Boards.{Board, boardOf}
+use Rattle.ports.specs.Boards.{Board}
 use Rattle.sheets.specs.Sheets.{Sheet, sheet}
 use Rattle.sheets.specs.Kept.{noPlan}
 use Rattle.tables.specs.declared.Table.{Table as Plain}
-use Rattle.build.specs.declared.Built.{Built}
-use Rattle.build.specs.declared.declarations.DeclaredArrays.{DeclaredArrays}
-use Rattle.build.specs.declared.schedules.PlannedArrays.{PlannedArrays}
-
--- the arrays of declarations
-abbrev pub boardIn : DeclaredArrays → Board
-boardIn r =
-    boardOf (r .counts) (r .name) (r .«sensor_names») (r .«actuator_names») (r .«task_names») (r .«output_names») (r .roles) (r .types) (r .starts) (r .«task_rows»)
-
--- the arrays of modes, guards, activities and drivers
-abbrev pub sheetIn : PlannedArrays → Sheet
-sheetIn r = sheet (r .plan) (r .«guard_rows») (r .«driver_rows») (r .acts) (r .«mode_names») (r .«mode_rows») (r .modes)
 
 -- modes, guards, activities and drivers before the first item
 abbrev pub blankSheet : Sheet
@@ -47,7 +35,3 @@ tableIn b h =
       «mode_rows» = h .heads;
       code = zeros 12288;
     }
-
--- the table, and the rows that code generation takes
-abbrev pub builtOf : Board → Sheet → Built
-builtOf b h = record { table = tableIn b h; modes = h .modes; acts = h .acts }

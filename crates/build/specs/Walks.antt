@@ -1,16 +1,19 @@
 -- The items of a text put into a state one after the other, each where the first rows of the table of names stand before it.
-use Prim.Native.Nat.{ℕ, zero, suc, _+_, _≤_}
+use Prim.Native.Nat.{ℕ, zero, suc, _+_, _≤_, _<_}
 use native.Mathlib.Omega.{arith}
-use mathlib.Core.Path.{_≡_, refl, sym, _∙_}
+use mathlib.Core.Path.{_≡_, refl, sym, ap, _∙_}
 use mathlib.Core.List.{List, [], _∷_, _++_}
-use mathlib.Core.Bool.{Bool, true, false, not}
+use mathlib.Core.Bool.{Bool, true, false, not, cond}
 use lib.ListN.{length}
+use lib.Dec.{leb}
+use borrow.Author.Tests.{leb-false, le-leb, lt-leb}
 use Rattle.text.specs.declared.State.{State}
 use Rattle.text.specs.declared.ReadItem.{ReadItem}
 use Rattle.text.specs.declared.Item.{Item}
 use Rattle.text.specs.declared.Item.the-variants as I
 use Rattle.text.specs.Items.{itemAt, goes, itemsFrom}
-use Rattle.text.specs.ItemsLaws.{from-on, from-stop}
+use Rattle.text.specs.ItemsLaws.{from-on, from-stop, turn-ahead}
+use Rattle.text.specs.PartsLaws.{unsaid}
 use Rattle.refusals.specs.declared.Row.{Row}
 use Rattle.refusals.specs.Declarations.{declares}
 use Rattle.names.specs.Tables.{rowAt, rowsFrom, rowsIn}
@@ -40,6 +43,10 @@ declaring I.ModeEnd = 0
 declaring I.ModuleEnd = 0
 declaring I.End = 0
 declaring (I.No number at) = 0
+
+-- a walk is over behind the last item, and where what would come next does not lie ahead
+unfoldable pub overBy : Item → ℕ → ℕ → Bool
+overBy item at next = cond (leb next at) true (not (goes item))
 
 -- what some items leave, where n rows of names stand before the first of them
 unfoldable pub runs : {B : Type 0} → (ℕ → Item → B → B) → ℕ → List Item → B → B
@@ -106,15 +113,36 @@ module _ {B : Type 0} (on : ℕ → Item → B → B) (s : List ℕ) (state : St
   pub run-over : {after whole : B} → goes (r .item) ≡ false → after ≡ on n (r .item) b → runs on n (itemsFrom s state at) b ≡ whole → after ≡ whole
   run-over g e w = e ∙ sym (run-out g) ∙ w
 
--- an item that is not the last goes on
-pub goes-by : (item : Item) (t : Bool) → t ≡ not (goes item) → goes item ≡ not t
-goes-by item t e = by (goes item) t e
+-- ---- whether a walk is over
+
+module _ (item : Item) (at next : ℕ) where
+  pub over-behind : next ≤ at → true ≡ overBy item at next
+  unfolding overBy
+  over-behind h = rw (le-leb next at h) refl
+
+  pub over-last : at < next → not (goes item) ≡ overBy item at next
+  unfolding overBy
+  over-last h = rw (lt-leb next at h) refl
+
+  -- one that is not over goes on, ahead
+  pub on-ahead : overBy item at next ≡ false → (at < next) × (goes item ≡ true)
+  unfolding overBy
+  on-ahead e = by (leb next at) (goes item) refl refl e
+    where
+      by : (b g : Bool) → leb next at ≡ b → goes item ≡ g → cond b true (not g) ≡ false → (at < next) × (goes item ≡ true)
+      by true g l f e = absurd (unsaid (sym e))
+      by false true l f e = (leb-false next at l, f)
+      by false false l f e = absurd (unsaid (sym e))
+
+-- an item of a text with which a walk is over is its last
+pub over-out : (s : List ℕ) (state : State) (at : ℕ) (r : ReadItem) → at ≤ length s → r ≡ itemAt s state at → overBy (r .item) at (r .next) ≡ true → goes (r .item) ≡ false
+over-out s state at r h p e = by (goes (r .item)) refl
   where
-    by : (g t : Bool) → t ≡ not g → g ≡ not t
-    by true true e = e
-    by true false e = refl
-    by false true e = refl
-    by false false e = e
+    by : (g : Bool) → goes (r .item) ≡ g → goes (r .item) ≡ false
+    by false g = g
+    by true g =
+        let ahead = turn-ahead s state at r h p g in
+        absurd (unsaid (sym (ap not g) ∙ over-last (r .item) at (r .next) (ahead .0) ∙ e))
 
 -- at most one
 pub declaring-few : (item : Item) → declaring item ≤ 1

@@ -1,10 +1,11 @@
 // The walk that fills the arrays of modes, guards, activities and drivers.
 ghost use mathlib.Core.Path.{_≡_};
 ghost use Rattle.text.specs.Items.{itemsOf};
+ghost use Rattle.kept.specs.Kept.{Kept};
+ghost use Rattle.names.specs.Index.{Indexed};
 ghost use Rattle.sheets.specs.Sheets.{sheet};
 ghost use Rattle.sheets.specs.Kept.{noPlan};
 ghost use Rattle.build.specs.Walks.{sheetRun};
-ghost use Rattle.build.specs.Tables.{sheetIn, blankSheet};
 use super::turns;
 use sheets::Acting;
 use sheets::Filled;
@@ -49,9 +50,10 @@ fn nothing() -> Plan
     }
 }
 
-// Every item of a text, put into the arrays of modes, where the table of names has so many rows in all.
-fn planned<'a>(
+// Every item of a text, as it is kept, put into the arrays of modes, where the table of names has so many rows in all.
+pub fn planned<'a>(
     s: &'a [u8],
+    memo: &'a [usize],
     cells: &'a [usize],
     all: usize,
     guard_rows: &mut [u32],
@@ -61,14 +63,15 @@ fn planned<'a>(
     mode_rows: &mut [u32],
     modes: &mut [u32],
 ) -> Plan
-    ensures { λ r. ⌜ sheet r (now («guard_rows» .exit)) (now («driver_rows» .exit)) (now (acts .exit)) (now («mode_names» .exit)) (now («mode_rows» .exit)) (now (modes .exit)) ≡ sheetRun (now (s .entry)) (now (cells .entry)) all 0 (itemsOf (now (s .entry))) (sheet noPlan (now («guard_rows» .entry)) (now («driver_rows» .entry)) (now (acts .entry)) (now («mode_names» .entry)) (now («mode_rows» .entry)) (now (modes .entry))) ⌝ }
+    ensures { λ r. ⌜ (Kept (now (s .entry)) (now (memo .entry)) → Indexed (now (s .entry)) (now (cells .entry)) → sheet r (now («guard_rows» .exit)) (now («driver_rows» .exit)) (now (acts .exit)) (now («mode_names» .exit)) (now («mode_rows» .exit)) (now (modes .exit)) ≡ sheetRun (now (s .entry)) (now (cells .entry)) all 0 (itemsOf (now (s .entry))) (sheet noPlan (now («guard_rows» .entry)) (now («driver_rows» .entry)) (now (acts .entry)) (now («mode_names» .entry)) (now («mode_rows» .entry)) (now (modes .entry)))) ⌝ }
 {
     let mut state = State::Begin;
     let mut at = 0;
     let mut n = 0;
+    let mut k = 0;
     let mut plan = nothing();
     while at <= s.len() {
-        let read = items::item(s, state, at);
+        let read = kept::item(s, memo, k, state, at);
         let found = read.item;
         plan = plans::planned(
             s,
@@ -84,55 +87,15 @@ fn planned<'a>(
             mode_rows,
             modes,
         );
-        if turns::last(found) {
+        let next = read.next;
+        if turns::over(found, at, next) {
             return plan;
         }
         n += turns::declaring(found);
+        k += 1;
         let behind = read.state;
         state = behind;
-        at = read.next;
+        at = next;
     }
     plan
-}
-
-// What is kept, and the arrays that were filled.
-pub struct PlannedArrays {
-    pub plan: Plan,
-    pub guard_rows: [u32; 1536],
-    pub driver_rows: [u32; 3456],
-    pub acts: [u32; 768],
-    pub mode_names: [u8; 264],
-    pub mode_rows: [u32; 24],
-    pub modes: [u32; 40],
-}
-
-pub fn planned_arrays<'a>(s: &'a [u8], cells: &'a [usize], all: usize) -> PlannedArrays
-    ensures { λ r. ⌜ sheetIn r ≡ sheetRun (now (s .entry)) (now (cells .entry)) all 0 (itemsOf (now (s .entry))) blankSheet ⌝ }
-{
-    let mut guard_rows = [0u32; 1536];
-    let mut driver_rows = [0u32; 3456];
-    let mut acts = [0u32; 768];
-    let mut mode_names = [0u8; 264];
-    let mut mode_rows = [0u32; 24];
-    let mut modes = [0u32; 40];
-    let plan = planned(
-        s,
-        cells,
-        all,
-        &mut guard_rows,
-        &mut driver_rows,
-        &mut acts,
-        &mut mode_names,
-        &mut mode_rows,
-        &mut modes,
-    );
-    PlannedArrays {
-        plan,
-        guard_rows,
-        driver_rows,
-        acts,
-        mode_names,
-        mode_rows,
-        modes,
-    }
 }

@@ -2,11 +2,11 @@
 ghost use mathlib.Core.Path.{_≡_};
 ghost use mathlib.Core.Bool.{not};
 ghost use Rattle.text.specs.Items.{goes};
-ghost use Rattle.build.specs.Walks.{declaring as declaringOf};
+ghost use Rattle.build.specs.Walks.{declaring as declaringOf, overBy};
 use text::Item;
 
 // The end of the text, or a refusal.
-pub fn last(item: Item) -> bool
+fn last(item: Item) -> bool
     ensures { λ r. ⌜ r ≡ not (goes item) ⌝ }
 {
     match item {
@@ -14,6 +14,16 @@ pub fn last(item: Item) -> bool
         Item::No { number: _, at: _ } => true,
         _ => false,
     }
+}
+
+// Whether a walk ends with an item at a place, behind which it would go on at another.
+pub fn over(item: Item, at: usize, next: usize) -> bool
+    ensures { λ r. ⌜ r ≡ overBy item at next ⌝ }
+{
+    if next <= at {
+        return true;
+    }
+    last(item)
 }
 
 pub fn declaring(item: Item) -> usize

@@ -3,12 +3,9 @@ use Prim.Native.Nat.{ℕ, _+_, _*_, _<_, _≤_}
 use native.Mathlib.Numerals.{add-one}
 use native.Mathlib.Omega.{arith}
 use mathlib.Core.Path.{_≡_, refl, sym, ap, _∙_}
-use mathlib.Core.Bool.{true, false, cond}
 use mathlib.Core.List.{List, [], _∷_}
 use lib.ListN.{length, getD, set, drop, drop-of-length-le}
 use lib.Seq.{sets, drop-cons}
-use lib.Dec.{ltb}
-use borrow.Author.Tests.{lt-ltb, le-ltb}
 use Rattle.model.specs.Rooms.{codeRoom, modeRoom}
 use Rattle.model.specs.Modules.{each}
 use Rattle.model.specs.Instructions.{Instr}
@@ -16,7 +13,6 @@ use Rattle.layout.specs.Rows.{zeros}
 use Rattle.tables.specs.declared.Table.{Table as Plain}
 use Rattle.emit.specs.Rows.{codeBy, beginsBy, instructionCells, Generated}
 use Rattle.emit.specs.GeneratedLaws.{whole-code, whole-begins}
-use Rattle.coding.specs.declared.Coding.{Coding}
 
 -- places of the code in the last cells of the modes' rows, the first in row k
 unfoldable pub begunFrom : List ℕ → ℕ → List ℕ → List ℕ
@@ -54,32 +50,20 @@ withCode t count heads code =
 abbrev pub wholeOf : Plain → List Instr → List ℕ → Plain
 wholeOf t code begins = withCode t (length code) (begunFrom (t .«mode_rows») 0 (sets (zeros modeRoom) 0 begins)) (sets (zeros (3 * codeRoom)) 0 (each instructionCells code))
 
--- Code over 4,096 is counted, and the table is as it came.
-unfoldable pub codedOf : Plain → List ℕ → List ℕ → Coding
-codedOf t modes acts =
-    let code = codeBy modes acts (t .modes) (t .tasks) in
-    let whole = wholeOf t code (beginsBy modes acts (t .modes) (t .tasks)) in
-    record { count = length code; table = cond (ltb codeRoom (length code)) t whole }
+-- What is put into the arrays of code and of modes for rows of modes and activities: the code that fits, and where it begins in the last cell of each mode's row; and how many instructions there are.
+pub record Coded (modes acts : List ℕ) (n tasks : ℕ) (code heads code' heads' : List ℕ) (count : ℕ) : Type 0 where
+  pub begins : List ℕ
+  pub made : Generated modes acts n tasks code (zeros modeRoom) code' begins count
+  pub begun : heads' ≡ begunFrom heads 0 begins
 
--- ---- from the generator's answer
+-- ---- what is whole
 
-module _ (t : Plain) {modes acts code begins : List ℕ} {count : ℕ} (g : Generated modes acts (t .modes) (t .tasks) (zeros (3 * codeRoom)) (zeros modeRoom) code begins count) where
-  pub overfull : codeRoom < count → record { count = count; table = t } ≡ codedOf t modes acts
-  unfolding codedOf
-  overfull h =
-      let n = length (codeBy modes acts (t .modes) (t .tasks)) in
-      let e : count ≡ n = g .size in
-      let l : ltb codeRoom n ≡ true = lt-ltb codeRoom n (omega arith) in
-      rw (l, e) refl
-
-  pub whole : (heads : List ℕ) → count ≤ codeRoom → heads ≡ begunFrom (t .«mode_rows») 0 begins → record { count = count; table = withCode t count heads code } ≡ codedOf t modes acts
-  unfolding codedOf
-  whole heads h e =
-      let n = length (codeBy modes acts (t .modes) (t .tasks)) in
-      let s : count ≡ n = g .size in
-      let l : ltb codeRoom n ≡ false = le-ltb codeRoom n (omega arith) in
-      let p = e ∙ ap (begunFrom (t .«mode_rows») 0) (whole-begins g h) in
-      rw (l, s, p, whole-code g h) refl
+-- a table whose code fits: with the arrays as they then are it has it whole
+module _ (t : Plain) {modes acts code' heads' : List ℕ} {count : ℕ} (c : Coded modes acts (t .modes) (t .tasks) (zeros (3 * codeRoom)) (t .«mode_rows») code' heads' count) where
+  pub whole : count ≤ codeRoom → withCode t count heads' code' ≡ wholeOf t (codeBy modes acts (t .modes) (t .tasks)) (beginsBy modes acts (t .modes) (t .tasks))
+  whole h =
+      let p = c .begun ∙ ap (begunFrom (t .«mode_rows») 0) (whole-begins (c .made) h) in
+      rw (c .made .size, p, whole-code (c .made) h) refl
 
 -- ---- mode by mode
 

@@ -2,12 +2,9 @@
 use Prim.Native.Nat.{ℕ, zero, suc, _+_, _-_, _*_, _≤_}
 use native.Mathlib.Omega.{arith}
 use mathlib.Core.Path.{_≡_, refl, sym, ap, ap₂, _∙_}
-use mathlib.Core.Bool.{false}
 use mathlib.Core.List.{List, [], _∷_, _++_, map, append-assoc}
 use lib.ListN.{length, set, length-append, length-map}
 use lib.Seq.{sets, set-at}
-use lib.Dec.{ltb}
-use borrow.Author.Tests.{le-ltb}
 use Rattle.model.specs.Rooms.{taskRoom, modeRoom, codeRoom}
 use Rattle.model.specs.Modules.{Module, Mode, each}
 use Rattle.model.specs.Instructions.{Instr}
@@ -24,7 +21,7 @@ use Rattle.emit.specs.Erased.{erased, code-of, begins-of}
 use Rattle.emit.specs.GeneratedLaws.{length-rows}
 use Rattle.accepted.specs.TableRefers.{mode-rows-length, begins-as-many}
 use Rattle.build.specs.Accepting.{plainMode, uncoded}
-use Rattle.coding.specs.Codings.{begunFrom, wholeOf, codedOf}
+use Rattle.coding.specs.Codings.{begunFrom, withCode, wholeOf, Coded, whole}
 
 -- ---- the beginning of each mode
 
@@ -152,10 +149,6 @@ module _ (M : Module) (modes acts : List ℕ) (few-modes : length (M .modes) ≤
   begins-is : beginsBy modes acts (bare .modes) (bare .tasks) ≡ beginsOf M
   begins-is = ap₂ (λ (n k : ℕ). beginsBy modes acts n k) modes-told tasks-told ∙ begins-of M modes acts (length (M .modes)) few-tasks all-modes
 
-  pub coded-count : codedOf bare modes acts .count ≡ length (codeOf M)
-  unfolding codedOf
-  coded-count = ap (λ (code : List Instr). length code) code-is
-
   whole-table : length (codeOf M) ≤ codeRoom → wholeOf bare (codeOf M) (beginsOf M) ≡ structOf (tableOf M)
   unfolding structOf tableOf uncoded
   whole-table h =
@@ -165,8 +158,16 @@ module _ (M : Module) (modes acts : List ℕ) (few-modes : length (M .modes) ≤
       let heads = begun-rows (M .modes) (beginsOf M) few-modes many in
       rw (counts, named, heads, code-rows (codeOf M) h) refl
 
-  pub coded-table : length (codeOf M) ≤ codeRoom → codedOf bare modes acts .table ≡ structOf (tableOf M)
-  unfolding codedOf
-  coded-table h =
-      let l : ltb codeRoom (length (codeOf M)) ≡ false = le-ltb codeRoom (length (codeOf M)) h in
-      rw (code-is, begins-is, l) (whole-table h)
+  module _ {code' heads' : List ℕ} {count : ℕ} (coded : Coded modes acts (bare .modes) (bare .tasks) (zeros (3 * codeRoom)) (bare .«mode_rows») code' heads' count) where
+    pub coded-count : count ≡ length (codeOf M)
+    coded-count = coded .made .size ∙ ap (λ (code : List Instr). length code) code-is
+
+    pub coded-table : count ≤ codeRoom → withCode bare count heads' code' ≡ structOf (tableOf M)
+    coded-table h =
+        let n = coded-count in
+        whole bare coded h ∙ ap₂ (λ (code : List Instr) (begins : List ℕ). wholeOf bare code begins) code-is begins-is ∙ whole-table (omega arith)
+
+  -- the same of any table that is the one before its code is made
+  pub coded-right : (t : Plain) → t ≡ bare → {code' heads' : List ℕ} {count : ℕ} → Coded modes acts (t .modes) (t .tasks) (zeros (3 * codeRoom)) (t .«mode_rows») code' heads' count
+      → (count ≡ length (codeOf M)) × (count ≤ codeRoom → withCode t count heads' code' ≡ structOf (tableOf M))
+  coded-right t e = rw e (λ coded. (coded-count coded, coded-table coded))

@@ -1,9 +1,10 @@
 -- Whether a table of plain arrays is one that the reader can return, and what writing it does.
 use mathlib.Core.Path.{_≡_, refl, sym, ap, _∙_}
 use mathlib.Core.Bool.{Bool, true, false}
-use mathlib.Core.List.{List, _++_}
+use mathlib.Core.List.{List, _++_, append-assoc}
 use Prim.Native.Nat.{ℕ, _≤_, _<_}
-use lib.ListN.{length, drop}
+use lib.ListN.{length, take, drop, take-append-drop}
+use lib.Seq.{length-take-le, drop-append-le}
 use borrow.Author.Tests.{le-leb, lt-leb}
 use native.Mathlib.Omega.{arith}
 use Rattle.file.specs.Tables.{Table}
@@ -16,11 +17,12 @@ use Rattle.file.specs.declared.WriteAnswer.the-variants.{Wrote, Refused as Writ
 use Rattle.tables.specs.declared.Table.{Table as Plain}
 use Rattle.layout.specs.Plain.{structOf}
 use Rattle.comparing.specs.Alike.{alike, alike-true, alike-refl}
-use Rattle.filing.specs.Whole.{fileOf}
+use Rattle.filing.specs.Whole.{fileOf, Filed}
 use Rattle.encoding.specs.ByteLaws.{file-whole}
 use Rattle.encoding.specs.Whole.{file-is}
 use Rattle.reading.specs.declared.Reading.{Reading}
 use Rattle.reading.specs.Readings.{readingOf}
+use Rattle.ecode.specs.Filed.{file-length, filed-front}
 
 -- the bytes that are written for a table: those of its file, as far as the longest file goes
 abbrev pub bytesOf : Plain → List ℕ
@@ -85,3 +87,22 @@ module _ (good : Bool) (file buffer : List ℕ) where
 
   pub wrote : good ≡ true → length file ≤ length buffer → (Wrote (length file) ≡ writes good file buffer) × (file ++ drop (length file) buffer ≡ written good file buffer)
   wrote e h = let l = le-leb (length file) (length buffer) h in rw (e, l) (refl, refl)
+
+-- a file that was put together in the front of a buffer with room for the longest
+pub in-front : (buffer : List ℕ) {after : List ℕ} {t : Plain} {next : ℕ} → 71364 ≤ length buffer → Filed (take 71364 buffer) t after next
+    → (Wrote next ≡ writes true (bytesOf t) buffer) × (after ++ drop 71364 buffer ≡ written true (bytesOf t) buffer)
+in-front buffer {after} {t} {next} h filed =
+    let before = take 71364 buffer in
+    let size : length before ≡ 71364 = length-take-le 71364 buffer h in
+    let g = filed .goes in
+    let few : next ≤ 71364 = omega arith in
+    let file = ap (λ (n : ℕ). fileOf n t) size in
+    let long : length (bytesOf t) ≡ next = ap length (sym file) ∙ file-length before t after next filed (omega arith) (omega arith) in
+    let w = wrote true (bytesOf t) buffer refl (omega arith) in (
+      ap Wrote (sym long) ∙ w .0,
+      ap (λ (l : List ℕ). l ++ drop 71364 buffer) (filed-front before t after next filed (omega arith) (omega arith) ∙ ap (λ (l : List ℕ). l ++ drop next before) file)
+          ∙ append-assoc (bytesOf t) (drop next before) (drop 71364 buffer)
+          ∙ ap (λ (l : List ℕ). bytesOf t ++ l) (sym (drop-append-le next before (drop 71364 buffer) (omega arith)) ∙ ap (drop next) (take-append-drop 71364 buffer))
+          ∙ ap (λ (n : ℕ). bytesOf t ++ drop n buffer) (sym long)
+          ∙ w .1,
+    )

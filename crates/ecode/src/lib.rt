@@ -3,6 +3,7 @@
 // written as its file, and what is refused leaves the buffer as it was.
 // Builds on reading, filing and comparing, and on encoding for the theorem that ties them.
 ghost use mathlib.Core.Path.{_≡_};
+ghost use mathlib.Core.Bool.{true};
 ghost use mathlib.Core.List.{_++_};
 ghost use Prim.Native.Nat.{_≤_};
 ghost use lib.ListN.{length, drop};
@@ -15,6 +16,8 @@ use file::ReadAnswer;
 use file::WriteAnswer;
 use reading::Reading;
 use tables::Table;
+
+pub mod arrays;
 
 // The table that some bytes hold, or the number of the refusal.
 pub fn read(bytes: &[u8]) -> Reading
@@ -65,17 +68,24 @@ fn copy(from: &[u8], to: &mut [u8])
     }
 }
 
+// A file, to the front of a buffer that has room for it.
+pub fn hand(bytes: &[u8], buffer: &mut [u8]) -> WriteAnswer
+    ensures { λ r. ⌜ (r ≡ writes true (now (bytes .entry)) (now (buffer .entry))) × (now (buffer .exit) ≡ writtenTo true (now (bytes .entry)) (now (buffer .entry))) ⌝ }
+{
+    let n = bytes.len();
+    if buffer.len() < n {
+        return WriteAnswer::Refused(14);
+    }
+    copy(bytes, buffer);
+    WriteAnswer::Wrote(n)
+}
+
 // What is read back as the same table goes to the buffer, if there is room.
 fn handed(t: Table, bytes: &[u8], buffer: &mut [u8]) -> WriteAnswer
     ensures { λ r. ⌜ (r ≡ writes (backIn t (decode (now (bytes .entry)))) (now (bytes .entry)) (now (buffer .entry))) × (now (buffer .exit) ≡ writtenTo (backIn t (decode (now (bytes .entry)))) (now (bytes .entry)) (now (buffer .entry))) ⌝ }
 {
-    let n = bytes.len();
     if reads_back(t, bytes) {
-        if buffer.len() < n {
-            return WriteAnswer::Refused(14);
-        }
-        copy(bytes, buffer);
-        return WriteAnswer::Wrote(n);
+        return hand(bytes, buffer);
     }
     WriteAnswer::Refused(30)
 }

@@ -1,6 +1,6 @@
-use Prim.Native.Nat.{_-_, _≤_}
+use Prim.Native.Nat.{_+_, _-_, _≤_}
 use denote.Ref.{now}
-use mathlib.Core.Path.{_≡_, refl, sym, _∙_}
+use mathlib.Core.Path.{_≡_, refl, sym, ap, _∙_}
 use lib.ListN.{length, drop}
 use Rattle.coding.specs.Codings.{begunFrom, begun-on, begun-all}
 use borrow.Author.Needs.{needs}
@@ -9,33 +9,30 @@ use Rattle.coding.proofs.begin_places.Statement.{statement}
 use Rattle.coding.proofs.begin_places.Tie as tie
 
 abbrev Inv-loop : tie.InvT-loop
-Inv-loop begins mode-rows₀ k₀ mode-rows k = (k ≤ 8) × (begunFrom mode-rows k (drop k begins) ≡ begunFrom mode-rows₀ 0 begins)
+Inv-loop begins mode-rows₀ k₀ mode-rows k = (k ≤ 8) × (length mode-rows ≡ length mode-rows₀) × (begunFrom mode-rows k (drop k begins) ≡ begunFrom mode-rows₀ 0 begins)
 
 abbrev μ-loop : tie.MeasureT-loop
 μ-loop begins mode-rows₀ k₀ mode-rows k = 8 - k
 
 loop-holds : tie.Need-loop-holds Inv-loop μ-loop
-loop-holds c = (omega arith, refl)
+loop-holds c = (omega arith, refl, refl)
 
-mul-mode-rows : tie.Need-mul-mode-rows Inv-loop μ-loop
-mul-mode-rows c = search needs
+mul-put32 : tie.Need-mul-put32 Inv-loop μ-loop
+mul-put32 c = search needs
 
-shared-slice-read-mode-rows : tie.Need-shared-slice-read-mode-rows Inv-loop μ-loop
-shared-slice-read-mode-rows c =
-    let long : length (now (c .before .before .before .args .begins)) ≡ 8 = c .before .before .before .pre in
+add-put32 : tie.Need-add-put32 Inv-loop μ-loop
+add-put32 c = search needs
+
+mul-put32-2 : tie.Need-mul-put32-2 Inv-loop μ-loop
+mul-put32-2 c = search needs
+
+shared-slice-read-put32 : tie.Need-shared-slice-read-put32 Inv-loop μ-loop
+shared-slice-read-put32 c =
+    let long : length (now (c .before .before .before .before .before .before .args .begins)) ≡ 8 = c .before .before .before .before .before .before .pre in
     omega arith
 
-mul-mode-rows-2 : tie.Need-mul-mode-rows-2 Inv-loop μ-loop
-mul-mode-rows-2 c = search needs
-
-add-mode-rows : tie.Need-add-mode-rows Inv-loop μ-loop
-add-mode-rows c = search needs
-
-mul-mode-rows-3 : tie.Need-mul-mode-rows-3 Inv-loop μ-loop
-mul-mode-rows-3 c = search needs
-
-element-write-mode-rows : tie.Need-element-write-mode-rows Inv-loop μ-loop
-element-write-mode-rows c = search needs
+put32-requires : tie.Need-put32-requires Inv-loop μ-loop
+put32-requires c κs = search needs
 
 add-k : tie.Need-add-k Inv-loop μ-loop
 add-k c = search needs
@@ -45,17 +42,20 @@ loop-less c = search needs
 
 loop-again : tie.Need-loop-again Inv-loop μ-loop
 loop-again c =
-    let loop = c .before .before .loop in
-    let begins = now (c .before .before .before .args .begins) in
-    let long : length begins ≡ 8 = c .before .before .before .pre in
-    (omega arith, begun-on (loop .«mode-rows») (loop .k) begins (omega arith) ∙ loop .inv .1)
+    let loop = c .before .before .before .before .before .before .loop in
+    let begins = now (c .before .before .before .before .before .before .before .before .before .args .begins) in
+    let long : length begins ≡ 8 = c .before .before .before .before .before .before .before .before .before .pre in
+    (omega arith, c .before .«mode-rows» .given ∙ loop .inv .1, ap (λ rows. begunFrom rows (loop .k + 1) (drop (loop .k + 1) begins)) (c .before .before .put32 .ensures) ∙ begun-on (loop .«mode-rows») (loop .k) begins (omega arith) ∙ loop .inv .2)
+
+same-length : tie.Need-same-length Inv-loop μ-loop
+same-length c = c .before .loop .inv .1
 
 returns : tie.Need-returns Inv-loop μ-loop
 returns c =
     let loop = c .before .loop in
-    let begins = now (c .before .before .args .begins) in
-    let long : length begins ≡ 8 = c .before .before .pre in
-    sym (begun-all (loop .«mode-rows») (loop .k) begins (omega arith)) ∙ loop .inv .1
+    let begins = now (c .before .before .before .before .args .begins) in
+    let long : length begins ≡ 8 = c .before .before .before .before .pre in
+    sym (begun-all (loop .«mode-rows») (loop .k) begins (omega arith)) ∙ loop .inv .2
 
 pub begin-places-spec : {M : Type 1} → statement M
 begin-places-spec =
@@ -64,13 +64,13 @@ begin-places-spec =
     Inv-loop
     μ-loop
     loop-holds
-    mul-mode-rows
-    shared-slice-read-mode-rows
-    mul-mode-rows-2
-    add-mode-rows
-    mul-mode-rows-3
-    element-write-mode-rows
+    mul-put32
+    add-put32
+    mul-put32-2
+    shared-slice-read-put32
+    put32-requires
     add-k
     loop-less
     loop-again
+    same-length
     returns)

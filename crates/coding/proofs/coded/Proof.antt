@@ -1,6 +1,4 @@
 use Rattle.layout.specs.Rows.{zeros}
-use Rattle.coding.specs.Codings.{overfull, whole}
-use native.Mathlib.Omega.{arith}
 use borrow.Author.Needs.{needs}
 use Rattle.coding.proofs.coded.Statement.{statement}
 use Rattle.coding.proofs.coded.Tie as tie
@@ -8,15 +6,8 @@ use Rattle.coding.proofs.coded.Tie as tie
 slice-aggregate-generate : tie.Need-slice-aggregate-generate
 slice-aggregate-generate c = search needs
 
-slice-aggregate-generate-2 : tie.Need-slice-aggregate-generate-2
-slice-aggregate-generate-2 c = search needs
-
 generate-requires : tie.Need-generate-requires
 generate-requires c κs = search needs
-
-returns : tie.Need-returns
-unfolding zeros
-returns c = overfull (c .before .before .before .before .before .before .before .before .args .table) (c .before .before .before .generate .ensures) (omega (arith, c .if1 .taken))
 
 slice-aggregate-begin-places : tie.Need-slice-aggregate-begin-places
 slice-aggregate-begin-places c = search needs
@@ -24,22 +15,24 @@ slice-aggregate-begin-places c = search needs
 begin-places-requires : tie.Need-begin-places-requires
 begin-places-requires c κs = search needs
 
-cast-whole : tie.Need-cast-whole
-cast-whole c = search needs
+same-length : tie.Need-same-length
+same-length c = search needs
 
-returns-2 : tie.Need-returns-2
+same-length-2 : tie.Need-same-length-2
+same-length-2 c = search needs
+
+returns : tie.Need-returns
 unfolding zeros
-returns-2 c = whole (c .before .before .before .before .before .before .before .before .before .before .before .before .args .table) (c .before .before .before .before .before .before .before .generate .ensures) _ (omega (arith, c .before .before .before .before .if1 .left)) (c .«begin-places» .ensures)
+returns c = record { begins = _; made = c .before .before .before .before .before .before .before .before .generate .ensures; begun = c .before .before .begin-places .ensures }
 
 pub coded-spec : {M : Type 1} → statement M
 coded-spec =
     tie.close
     (tie.spec
     slice-aggregate-generate
-    slice-aggregate-generate-2
     generate-requires
-    returns
     slice-aggregate-begin-places
     begin-places-requires
-    cast-whole
-    returns-2)
+    same-length
+    same-length-2
+    returns)

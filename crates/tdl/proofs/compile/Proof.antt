@@ -12,6 +12,9 @@ returns c =
     let right = compiles {text = now (c .before .before .before .args .text)} {before = now (c .before .before .before .args .out)} (long _ _ (omega (arith, c .if1 .taken))) in
     (right .tells, right .leaves)
 
+slice-aggregate-syntax : tie.Need-slice-aggregate-syntax
+slice-aggregate-syntax c = search needs
+
 syntax-requires : tie.Need-syntax-requires
 syntax-requires c κs = search needs
 
@@ -20,14 +23,20 @@ enum-known-pass c = search needs
 
 returns-2 : tie.Need-returns-2
 returns-2 c =
-    let right = compiles {text = now (c .before .before .before .before .before .before .before .args .text)} {before = now (c .before .before .before .before .before .before .before .args .out)} (unreadable _ _ (omega (arith, c .before .before .before .before .if1 .left)) _ _ (told _ _ (sym (c .before .pass .given .1) ∙ c .before .before .before .syntax .ensures))) in
+    let args = c .before .before .before .before .before .before .before .before .before .args in
+    let right = compiles {text = now (args .text)} {before = now (args .out)} (unreadable _ _ (omega (arith, c .before .before .before .before .before .before .if1 .left)) _ _ (told _ _ (sym (c .before .pass .given .1) ∙ c .before .before .before .before .syntax .ensures .0))) in
     (right .tells, right .leaves)
 
 enum-told : tie.Need-enum-told
 enum-told c = search needs
 
+slice-aggregate-judged : tie.Need-slice-aggregate-judged
+slice-aggregate-judged c = search needs
+
 judged-requires : tie.Need-judged-requires
-judged-requires c κs = record { short = omega (arith, c .before .before .before .before .if1 .left); syntax = told _ _ (sym (c .before .enum-told .given .1) ∙ c .before .before .before .syntax .ensures) }
+judged-requires c κs =
+    let syntax = c .before .before .before .before .before .syntax in
+    (record { short = omega (arith, c .before .before .before .before .before .before .before .if1 .left); syntax = told _ _ (sym (c .before .before .enum-told .given .1) ∙ syntax .ensures .0) }, syntax .ensures .1)
 
 same-length : tie.Need-same-length
 same-length c = search needs
@@ -40,10 +49,12 @@ compile-spec =
     tie.close
     (tie.spec
     returns
+    slice-aggregate-syntax
     syntax-requires
     enum-known-pass
     returns-2
     enum-told
+    slice-aggregate-judged
     judged-requires
     same-length
     returns-3)

@@ -1,42 +1,94 @@
-use Rattle.tdl.specs.Writings.{too-much, enough}
-use native.Mathlib.Omega.{arith}
+use Rattle.layout.specs.Rows.{zeros}
 use borrow.Author.Needs.{needs}
 use Rattle.tdl.proofs.translated.Statement.{statement}
 use Rattle.tdl.proofs.translated.Tie as tie
 
-build-requires : tie.Need-build-requires
-build-requires c κs = search needs
+slice-aggregate-declared : tie.Need-slice-aggregate-declared
+slice-aggregate-declared c = search needs
 
-slice-aggregate-coded : tie.Need-slice-aggregate-coded
-slice-aggregate-coded c = search needs
+slice-aggregate-declared-2 : tie.Need-slice-aggregate-declared-2
+slice-aggregate-declared-2 c = search needs
 
-slice-aggregate-coded-2 : tie.Need-slice-aggregate-coded-2
-slice-aggregate-coded-2 c = search needs
+slice-aggregate-declared-3 : tie.Need-slice-aggregate-declared-3
+slice-aggregate-declared-3 c = search needs
 
-coded-requires : tie.Need-coded-requires
-coded-requires c κs = search needs
+slice-aggregate-declared-4 : tie.Need-slice-aggregate-declared-4
+slice-aggregate-declared-4 c = search needs
 
-returns : tie.Need-returns
-returns c = too-much (c .before .before .before .before .before .before .before .before .before .before .before .before .pre) (c .before .before .before .before .before .before .before .before .build .ensures .1) (c .before .before .coded .ensures) (omega (arith, c .if1 .taken))
+slice-aggregate-declared-5 : tie.Need-slice-aggregate-declared-5
+slice-aggregate-declared-5 c = search needs
 
-written-requires : tie.Need-written-requires
-written-requires c κs = search needs
+slice-aggregate-declared-6 : tie.Need-slice-aggregate-declared-6
+slice-aggregate-declared-6 c = search needs
+
+slice-aggregate-declared-7 : tie.Need-slice-aggregate-declared-7
+slice-aggregate-declared-7 c = search needs
+
+slice-aggregate-declared-8 : tie.Need-slice-aggregate-declared-8
+slice-aggregate-declared-8 c = search needs
+
+slice-aggregate-declared-9 : tie.Need-slice-aggregate-declared-9
+slice-aggregate-declared-9 c = search needs
+
+declared-requires : tie.Need-declared-requires
+declared-requires c κs = search needs
+
+slice-aggregate-scheduled : tie.Need-slice-aggregate-scheduled
+slice-aggregate-scheduled c = search needs
+
+slice-aggregate-scheduled-2 : tie.Need-slice-aggregate-scheduled-2
+slice-aggregate-scheduled-2 c = search needs
+
+slice-aggregate-scheduled-3 : tie.Need-slice-aggregate-scheduled-3
+slice-aggregate-scheduled-3 c = search needs
+
+slice-aggregate-scheduled-4 : tie.Need-slice-aggregate-scheduled-4
+slice-aggregate-scheduled-4 c = search needs
+
+slice-aggregate-scheduled-5 : tie.Need-slice-aggregate-scheduled-5
+slice-aggregate-scheduled-5 c = search needs
+
+slice-aggregate-scheduled-6 : tie.Need-slice-aggregate-scheduled-6
+slice-aggregate-scheduled-6 c = search needs
+
+slice-aggregate-scheduled-7 : tie.Need-slice-aggregate-scheduled-7
+slice-aggregate-scheduled-7 c = search needs
+
+slice-aggregate-scheduled-8 : tie.Need-slice-aggregate-scheduled-8
+slice-aggregate-scheduled-8 c = search needs
+
+scheduled-requires : tie.Need-scheduled-requires
+unfolding zeros
+scheduled-requires c κs = (c .before .before .before .before .before .before .before .before .before .before .before .before .before .before .before .before .before .before .before .before .before .before .before .before .before .before .before .before .before .before .before .before .pre .0, c .before .before .before .before .before .before .before .before .before .before .before .before .before .before .before .before .before .before .before .before .before .before .before .before .before .before .before .before .before .before .before .before .pre .1, record { roles = _; is = c .before .before .before .before .before .before .before .before .before .before .before .before .before .before .before .before .before .before .declared .ensures (c .before .before .before .before .before .before .before .before .before .before .before .before .before .before .before .before .before .before .before .before .before .before .before .before .before .before .before .before .before .before .before .before .pre .1) (c .before .before .before .before .before .before .before .before .before .before .before .before .before .before .before .before .before .before .before .before .before .before .before .before .before .before .before .before .before .before .before .before .pre .0 .indexed) })
 
 same-length : tie.Need-same-length
 same-length c = search needs
 
-returns-2 : tie.Need-returns-2
-returns-2 c = enough (c .before .before .before .before .before .before .before .before .before .before .before .before .before .before .before .before .before .pre) (c .before .before .before .before .before .before .before .before .before .before .before .before .before .build .ensures .1) (c .before .before .before .before .before .before .before .coded .ensures) (omega (arith, c .before .before .before .before .before .if1 .left)) (c .before .before .written .ensures)
+returns : tie.Need-returns
+returns c = search needs
 
 pub translated-spec : {M : Type 1} → statement M
 translated-spec =
     tie.close
     (tie.spec
-    build-requires
-    slice-aggregate-coded
-    slice-aggregate-coded-2
-    coded-requires
-    returns
-    written-requires
+    slice-aggregate-declared
+    slice-aggregate-declared-2
+    slice-aggregate-declared-3
+    slice-aggregate-declared-4
+    slice-aggregate-declared-5
+    slice-aggregate-declared-6
+    slice-aggregate-declared-7
+    slice-aggregate-declared-8
+    slice-aggregate-declared-9
+    declared-requires
+    slice-aggregate-scheduled
+    slice-aggregate-scheduled-2
+    slice-aggregate-scheduled-3
+    slice-aggregate-scheduled-4
+    slice-aggregate-scheduled-5
+    slice-aggregate-scheduled-6
+    slice-aggregate-scheduled-7
+    slice-aggregate-scheduled-8
+    scheduled-requires
     same-length
-    returns-2)
+    returns)

@@ -1,33 +1,34 @@
-use mathlib.Core.Path.{_≡_, refl, ap, _∙_}
-use mathlib.Core.Bool.{not}
+use mathlib.Core.Path.{_≡_, refl, sym, _∙_}
 use Prim.Native.Nat.{_+_, _-_, _≤_}
 use lib.ListN.{length}
 use denote.Ref.{now}
 use Rattle.text.specs.Items.{itemsFrom, itemsOf}
 use Rattle.text.specs.ItemsLaws.{turn-ahead}
+use Rattle.kept.specs.Kept.{Kept}
 use Rattle.names.specs.Tables.{rowsIn}
+use Rattle.names.specs.Index.{Indexed}
 use Rattle.ports.specs.Boards.{boardOf, placedBy}
 use Rattle.ports.specs.Placing.{noPorts}
-use Rattle.build.specs.Walks.{boardRun, goes-by, run-again, run-over, declaring-few}
+use Rattle.build.specs.Walks.{boardRun, on-ahead, over-out, run-again, run-over, declaring-few}
 use borrow.Author.Needs.{needs}
 use native.Mathlib.Omega.{arith}
 use Rattle.build.proofs.declarations.declared.Statement.{statement}
 use Rattle.build.proofs.declarations.declared.Tie as tie
 
 abbrev Inv-loop : tie.InvT-loop
-Inv-loop s cells name₀ sensor-names₀ actuator-names₀ task-names₀ output-names₀ roles₀ types₀ starts₀ task-rows₀ state₀ at₀ n₀ ports₀ name sensor-names actuator-names task-names output-names roles types starts task-rows state at n ports =
-    (at ≤ length s) × (n ≤ at) × ((length name ≡ length name₀) × (length sensor-names ≡ length sensor-names₀) × (length actuator-names ≡ length actuator-names₀) × (length task-names ≡ length task-names₀) × (length output-names ≡ length output-names₀) × (length roles ≡ length roles₀) × (length types ≡ length types₀) × (length starts ≡ length starts₀) × (length task-rows ≡ length task-rows₀))
-    × (boardRun s cells n (itemsFrom s state at) (boardOf ports name sensor-names actuator-names task-names output-names roles types starts task-rows) ≡ boardRun s cells 0 (itemsOf s) (boardOf noPorts name₀ sensor-names₀ actuator-names₀ task-names₀ output-names₀ roles₀ types₀ starts₀ task-rows₀))
+Inv-loop s memo cells name₀ sensor-names₀ actuator-names₀ task-names₀ output-names₀ roles₀ types₀ starts₀ task-rows₀ state₀ at₀ n₀ k₀ ports₀ name sensor-names actuator-names task-names output-names roles types starts task-rows state at n k ports =
+    (n ≤ at) × (k ≤ at) × ((length name ≡ length name₀) × (length sensor-names ≡ length sensor-names₀) × (length actuator-names ≡ length actuator-names₀) × (length task-names ≡ length task-names₀) × (length output-names ≡ length output-names₀) × (length roles ≡ length roles₀) × (length types ≡ length types₀) × (length starts ≡ length starts₀) × (length task-rows ≡ length task-rows₀))
+    × (Kept s memo → Indexed s cells → (at ≤ length s) × (boardRun s cells n (itemsFrom s state at) (boardOf ports name sensor-names actuator-names task-names output-names roles types starts task-rows) ≡ boardRun s cells 0 (itemsOf s) (boardOf noPorts name₀ sensor-names₀ actuator-names₀ task-names₀ output-names₀ roles₀ types₀ starts₀ task-rows₀)))
 
 abbrev μ-loop : tie.MeasureT-loop
-μ-loop s cells name₀ sensor-names₀ actuator-names₀ task-names₀ output-names₀ roles₀ types₀ starts₀ task-rows₀ state₀ at₀ n₀ ports₀ name sensor-names actuator-names task-names output-names roles types starts task-rows state at n ports =
+μ-loop s memo cells name₀ sensor-names₀ actuator-names₀ task-names₀ output-names₀ roles₀ types₀ starts₀ task-rows₀ state₀ at₀ n₀ k₀ ports₀ name sensor-names actuator-names task-names output-names roles types starts task-rows state at n k ports =
     length s + 1 - at
 
 nothing-requires : tie.Need-nothing-requires Inv-loop μ-loop
 nothing-requires c κs = search needs
 
 loop-holds : tie.Need-loop-holds Inv-loop μ-loop
-loop-holds c = (omega arith, omega arith, (refl, refl, refl, refl, refl, refl, refl, refl, refl), rw (c .nothing .ensures) refl)
+loop-holds c = (omega arith, omega arith, (refl, refl, refl, refl, refl, refl, refl, refl, refl), λ kept ix. (omega arith, rw (c .nothing .ensures) refl))
 
 item-requires : tie.Need-item-requires Inv-loop μ-loop
 item-requires c κs = search needs
@@ -35,8 +36,8 @@ item-requires c κs = search needs
 placed-requires : tie.Need-placed-requires Inv-loop μ-loop
 placed-requires c κs = search needs
 
-last-requires : tie.Need-last-requires Inv-loop μ-loop
-last-requires c κs = search needs
+over-requires : tie.Need-over-requires Inv-loop μ-loop
+over-requires c κs = search needs
 
 same-length : tie.Need-same-length Inv-loop μ-loop
 same-length c = c .before .before .before .before .before .before .before .before .before .before .before .before .before .before .before .before .before .before .before .before .placed .kept .1 .1 .1 .1 .1 .0 ∙ c .before .before .before .before .before .before .before .before .before .before .before .before .before .before .before .before .before .before .before .before .before .before .before .before .before .before .before .before .before .before .before .before .loop .inv .2 .0
@@ -67,52 +68,67 @@ same-length-9 c = c .before .before .before .before .before .before .before .bef
 
 returns : tie.Need-returns Inv-loop μ-loop
 returns c =
-    let args = c .before .before .before .before .before .before .before .before .before .before .before .before .before .before .before .before .before .before .before .before .before .before .before .before .before .before .before .before .before .before .before .before .before .before .before .before .before .before .before .before .before .before .before .before .before .args in
+    let args = c .before .before .before .before .before .before .before .before .before .before .before .before .before .before .before .before .before .before .before .before .before .before .before .before .before .before .before .before .before .before .before .before .before .before .before .before .before .before .before .before .before .before .before .before .before .before .args in
     let loop = c .before .before .before .before .before .before .before .before .before .before .before .before .before .before .before .before .before .before .before .before .before .before .before .before .before .before .before .before .before .before .before .before .loop in
     let item = c .before .before .before .before .before .before .before .before .before .before .before .before .before .before .before .before .before .before .before .before .before .before .before .before .before .before .before .before .before .before .item in
-    let last = c .before .last in
-    let goes = goes-by (item .result .item) (last .result) (last .ensures) in
-    run-over (λ k item board. placedBy (now (args .s)) (rowsIn (now (args .cells)) k) item board) (now (args .s)) (loop .state) (loop .at) (item .result) (loop .inv .0) (item .ensures) (loop .n) _ (goes ∙ ap not (c .if1 .taken)) (c .before .before .before .before .before .before .before .before .before .before .before .before .before .before .before .before .before .before .before .before .placed .ensures) (loop .inv .3)
+    let over = c .before .over in
+    let told = sym (over .ensures) ∙ c .if1 .taken in
+    λ kept ix.
+    let run = loop .inv .3 kept ix in
+    let is = item .ensures kept in
+    run-over (λ k item board. placedBy (now (args .s)) (rowsIn (now (args .cells)) k) item board) (now (args .s)) (loop .state) (loop .at) (item .result) (run .0) is (loop .n) _ (over-out (now (args .s)) (loop .state) (loop .at) (item .result) (run .0) is told) (c .before .before .before .before .before .before .before .before .before .before .before .before .before .before .before .before .before .before .before .before .placed .ensures ix) (run .1)
 
 declaring-requires : tie.Need-declaring-requires Inv-loop μ-loop
 declaring-requires c κs = search needs
 
 add-n : tie.Need-add-n Inv-loop μ-loop
 add-n c =
-    let args = c .before .before .before .before .before .before .before .before .before .before .before .before .before .before .before .before .before .before .before .before .before .before .before .before .before .before .before .before .before .before .before .before .before .before .before .before .before .before .before .before .before .before .before .before .before .before .args in
+    let args = c .before .before .before .before .before .before .before .before .before .before .before .before .before .before .before .before .before .before .before .before .before .before .before .before .before .before .before .before .before .before .before .before .before .before .before .before .before .before .before .before .before .before .before .before .before .before .before .args in
     let loop = c .before .before .before .before .before .before .before .before .before .before .before .before .before .before .before .before .before .before .before .before .before .before .before .before .before .before .before .before .before .before .before .before .before .loop in
     let item = c .before .before .before .before .before .before .before .before .before .before .before .before .before .before .before .before .before .before .before .before .before .before .before .before .before .before .before .before .before .before .before .item in
-    let last = c .before .before .last in
-    let goes = goes-by (item .result .item) (last .result) (last .ensures) in
-    let on = goes ∙ ap not (c .before .if1 .left) in
-    let ahead = turn-ahead (now (args .s)) (loop .state) (loop .at) (item .result) (loop .inv .0) (item .ensures) on in
-    omega (arith, ahead .0, ahead .1, loop .inv .1, declaring-few (item .result .item), c .declaring .ensures)
+    let over = c .before .before .over in
+    let told = sym (over .ensures) ∙ c .before .if1 .left in
+    let ahead = on-ahead (item .result .item) (loop .at) (item .result .next) told in
+    omega (arith, loop .inv .0, c .before .before .before .before .before .before .before .before .before .before .before .before .before .before .before .before .before .before .before .before .before .before .before .before .before .before .before .before .before .before .before .before .loop-test .taken, declaring-few (item .result .item), c .declaring .ensures)
+
+add-k : tie.Need-add-k Inv-loop μ-loop
+add-k c =
+    let args = c .before .before .before .before .before .before .before .before .before .before .before .before .before .before .before .before .before .before .before .before .before .before .before .before .before .before .before .before .before .before .before .before .before .before .before .before .before .before .before .before .before .before .before .before .before .before .before .args in
+    let loop = c .before .before .before .before .before .before .before .before .before .before .before .before .before .before .before .before .before .before .before .before .before .before .before .before .before .before .before .before .before .before .before .before .before .loop in
+    let item = c .before .before .before .before .before .before .before .before .before .before .before .before .before .before .before .before .before .before .before .before .before .before .before .before .before .before .before .before .before .before .before .item in
+    let over = c .before .before .over in
+    let told = sym (over .ensures) ∙ c .before .if1 .left in
+    let ahead = on-ahead (item .result .item) (loop .at) (item .result .next) told in
+    omega (arith, ahead .0, loop .inv .1, c .before .before .before .before .before .before .before .before .before .before .before .before .before .before .before .before .before .before .before .before .before .before .before .before .before .before .before .before .before .before .before .before .loop-test .taken, declaring-few (item .result .item), c .declaring .ensures)
 
 loop-less : tie.Need-loop-less Inv-loop μ-loop
 loop-less c =
-    let args = c .before .before .before .before .before .before .before .before .before .before .before .before .before .before .before .before .before .before .before .before .before .before .before .before .before .before .before .before .before .before .before .before .before .before .before .before .before .before .before .before .before .before .before .before .before .before .args in
+    let args = c .before .before .before .before .before .before .before .before .before .before .before .before .before .before .before .before .before .before .before .before .before .before .before .before .before .before .before .before .before .before .before .before .before .before .before .before .before .before .before .before .before .before .before .before .before .before .before .args in
     let loop = c .before .before .before .before .before .before .before .before .before .before .before .before .before .before .before .before .before .before .before .before .before .before .before .before .before .before .before .before .before .before .before .before .before .loop in
     let item = c .before .before .before .before .before .before .before .before .before .before .before .before .before .before .before .before .before .before .before .before .before .before .before .before .before .before .before .before .before .before .before .item in
-    let last = c .before .before .last in
-    let goes = goes-by (item .result .item) (last .result) (last .ensures) in
-    let on = goes ∙ ap not (c .before .if1 .left) in
-    let ahead = turn-ahead (now (args .s)) (loop .state) (loop .at) (item .result) (loop .inv .0) (item .ensures) on in
-    omega (arith, ahead .0, ahead .1, loop .inv .0)
+    let over = c .before .before .over in
+    let told = sym (over .ensures) ∙ c .before .if1 .left in
+    let ahead = on-ahead (item .result .item) (loop .at) (item .result .next) told in
+    omega (arith, ahead .0, c .before .before .before .before .before .before .before .before .before .before .before .before .before .before .before .before .before .before .before .before .before .before .before .before .before .before .before .before .before .before .before .before .loop-test .taken)
 
 loop-again : tie.Need-loop-again Inv-loop μ-loop
 loop-again c =
-    let args = c .before .before .before .before .before .before .before .before .before .before .before .before .before .before .before .before .before .before .before .before .before .before .before .before .before .before .before .before .before .before .before .before .before .before .before .before .before .before .before .before .before .before .before .before .before .before .args in
+    let args = c .before .before .before .before .before .before .before .before .before .before .before .before .before .before .before .before .before .before .before .before .before .before .before .before .before .before .before .before .before .before .before .before .before .before .before .before .before .before .before .before .before .before .before .before .before .before .before .args in
     let loop = c .before .before .before .before .before .before .before .before .before .before .before .before .before .before .before .before .before .before .before .before .before .before .before .before .before .before .before .before .before .before .before .before .before .loop in
     let item = c .before .before .before .before .before .before .before .before .before .before .before .before .before .before .before .before .before .before .before .before .before .before .before .before .before .before .before .before .before .before .before .item in
-    let last = c .before .before .last in
-    let goes = goes-by (item .result .item) (last .result) (last .ensures) in
-    let on = goes ∙ ap not (c .before .if1 .left) in
-    let ahead = turn-ahead (now (args .s)) (loop .state) (loop .at) (item .result) (loop .inv .0) (item .ensures) on in
+    let over = c .before .before .over in
+    let told = sym (over .ensures) ∙ c .before .if1 .left in
+    let ahead = on-ahead (item .result .item) (loop .at) (item .result .next) told in
     let k = c .before .before .before .before .before .before .before .before .before .before .before .before .before .before .before .before .before .before .before .before .before .placed .kept .1 .1 .1 .1 .1 in (
-      ahead .1,
-      omega (arith, ahead .0, loop .inv .1, declaring-few (item .result .item), c .declaring .ensures),
+      omega (arith, ahead .0, loop .inv .0, declaring-few (item .result .item), c .declaring .ensures),
+      omega (arith, ahead .0, loop .inv .1),
       (k .0 ∙ loop .inv .2 .0, k .1 .0 ∙ loop .inv .2 .1, k .1 .1 .0 ∙ loop .inv .2 .2, k .1 .1 .1 .0 ∙ loop .inv .2 .3, k .1 .1 .1 .1 .0 ∙ loop .inv .2 .4, k .1 .1 .1 .1 .1 .0 ∙ loop .inv .2 .5, k .1 .1 .1 .1 .1 .1 .0 ∙ loop .inv .2 .6, k .1 .1 .1 .1 .1 .1 .1 .0 ∙ loop .inv .2 .7, k .1 .1 .1 .1 .1 .1 .1 .1 .0 ∙ loop .inv .2 .8),
-      run-again (λ k item board. placedBy (now (args .s)) (rowsIn (now (args .cells)) k) item board) (now (args .s)) (loop .state) (loop .at) (item .result) (loop .inv .0) (item .ensures) (loop .n) _ on (c .before .before .before .before .before .before .before .before .before .before .before .before .before .before .before .before .before .before .before .before .before .placed .ensures) (c .declaring .ensures) (loop .inv .3),
+      λ kept ix.
+          let run = loop .inv .3 kept ix in
+          let is = item .ensures kept in (
+            turn-ahead (now (args .s)) (loop .state) (loop .at) (item .result) (run .0) is (ahead .1) .1,
+            run-again (λ k item board. placedBy (now (args .s)) (rowsIn (now (args .cells)) k) item board) (now (args .s)) (loop .state) (loop .at) (item .result) (run .0) is (loop .n) _ (ahead .1) (c .before .before .before .before .before .before .before .before .before .before .before .before .before .before .before .before .before .before .before .before .before .placed .ensures ix) (c .declaring .ensures) (run .1),
+          ),
     )
 
 same-length-10 : tie.Need-same-length-10 Inv-loop μ-loop
@@ -143,7 +159,7 @@ same-length-18 : tie.Need-same-length-18 Inv-loop μ-loop
 same-length-18 c = c .before .loop .inv .2 .8
 
 returns-2 : tie.Need-returns-2 Inv-loop μ-loop
-returns-2 c = absurd (omega (arith, c .before .loop .inv .0, c .loop-test .left))
+returns-2 c = λ kept ix. absurd (omega (arith, c .before .loop .inv .3 kept ix .0, c .loop-test .left))
 
 pub declared-spec : {M : Type 1} → statement M
 declared-spec =
@@ -155,7 +171,7 @@ declared-spec =
     loop-holds
     item-requires
     placed-requires
-    last-requires
+    over-requires
     same-length
     same-length-2
     same-length-3
@@ -168,6 +184,7 @@ declared-spec =
     returns
     declaring-requires
     add-n
+    add-k
     loop-less
     loop-again
     same-length-10
