@@ -1,18 +1,21 @@
 // One reaction of the machine, over rows of numbers lent from a table.
-// Promises: `react` is the definition's reaction for every row, every state and every list of readings; it works on a copy of the ports, and after a
-// fault the ports are what they were.
+// Promises: `react` is the definition's reaction for every row, every state and every list of readings; after a fault the ports are
+// what they were.
 // Builds on the instructions and the store of machine, and on steps.
 ghost use mathlib.Core.Path.{_≡_};
 ghost use mathlib.Core.List.{List};
-ghost use Prim.Native.Nat.{ℕ};
+ghost use Prim.Native.Nat.{ℕ, _<_};
 ghost use Rattle.model.specs.Modules.{place as placed};
 ghost use Rattle.machine.specs.Store.{reaction};
 ghost use Rattle.steps.specs.Rows.{reactive};
 ghost use Rattle.steps.specs.Steps.{stepped, stepOf};
 ghost use Rattle.react.specs.Runs.{shown, shows, closes};
+ghost use Rattle.react.specs.Slides.{Slides};
 use steps::After;
 use steps::Core;
 use steps::Ending;
+use steps::lights;
+use steps::lights::Light;
 
 // How a reaction ended, and the number of instructions obeyed; 0 after a fault.
 pub struct Ran {
@@ -59,6 +62,44 @@ fn step<'a>(
     )
 }
 
+// How far light instructions went: where the machine then stands, and the number of instructions obeyed in all.
+struct Slid {
+    pc: u32,
+    steps: u32,
+}
+
+// Light instructions as long as they follow each other, from a place on, where so many were obeyed before; one is left to obey.
+fn slide<'a>(
+    instructions: u32,
+    code: &'a [u32],
+    drivers: &'a [u32],
+    guards: &'a [u32],
+    ports: &mut [u32; 320],
+    pc: u32,
+    steps: u32,
+) -> Slid
+    requires { ⌜ steps < instructions ⌝ }
+    ensures { λ r. ⌜ Slides instructions (now (code .entry)) (now (drivers .entry)) (now (guards .entry)) pc steps (now (ports .entry)) (r .pc) (r .steps) (now (ports .exit)) ⌝ }
+{
+    let mut at = pc;
+    let mut obeyed = steps;
+    while obeyed + 1 < instructions {
+        let light = lights::obey_light(instructions, code, drivers, guards, ports, at);
+        let Light::Onto(next) = light else {
+            return Slid {
+                pc: at,
+                steps: obeyed,
+            };
+        };
+        at = next;
+        obeyed += 1;
+    }
+    Slid {
+        pc: at,
+        steps: obeyed,
+    }
+}
+
 // Instruction after instruction until the reaction ends, at most as many as the code holds: else fault 41.
 fn obey_all<'a>(
     instructions: u32,
@@ -91,6 +132,9 @@ fn obey_all<'a>(
     };
     let mut steps = 0u32;
     while steps < instructions {
+        let slid = slide(instructions, code, drivers, guards, ports, core.pc, steps);
+        core.pc = slid.pc;
+        steps = slid.steps;
         let after = step(
             instructions,
             code,
@@ -149,8 +193,8 @@ pub fn react<'a, 'b>(
         (reaction (reactive instructions (now (code .entry)) (now (drivers .entry)) (now (guards .entry)) (now (modes .entry)) (now (tasks .entry))) (now (aside .entry)) mode pc
         (record { ports = placed 0 (now (words .entry)) (now (ports .entry)); out = out; waiting = waiting; finished = finished })) ⌝ }
 {
-    let mut work = *ports;
-    sense(words, &mut work);
+    let before = *ports;
+    sense(words, ports);
     let ran = obey_all(
         instructions,
         code,
@@ -159,7 +203,7 @@ pub fn react<'a, 'b>(
         modes,
         tasks,
         aside,
-        &mut work,
+        ports,
         mode,
         pc,
         out,
@@ -168,20 +212,23 @@ pub fn react<'a, 'b>(
     );
     let ending = ran.ending;
     match ending {
-        Ending::Returned(halted) => {
-            *ports = work;
+        Ending::Returned(halted) => Ran {
+            ending: Ending::Returned(halted),
+            steps: ran.steps,
+        },
+        Ending::Late(task) => {
+            *ports = before;
             Ran {
-                ending: Ending::Returned(halted),
-                steps: ran.steps,
+                ending: Ending::Late(task),
+                steps: 0,
             }
         }
-        Ending::Late(task) => Ran {
-            ending: Ending::Late(task),
-            steps: 0,
-        },
-        Ending::Fault(number) => Ran {
-            ending: Ending::Fault(number),
-            steps: 0,
-        },
+        Ending::Fault(number) => {
+            *ports = before;
+            Ran {
+                ending: Ending::Fault(number),
+                steps: 0,
+            }
+        }
     }
 }

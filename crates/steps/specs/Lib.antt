@@ -2,3 +2,4 @@ pub mod Rows
 pub mod RowLaws
 pub mod Steps
 pub mod Parts
+pub mod Lights

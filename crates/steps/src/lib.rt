@@ -11,6 +11,8 @@ ghost use Rattle.machine.specs.Store.{part, ended, driven, released};
 ghost use Rattle.steps.specs.Rows.{instrBy, driverIn, beginsBy, reactive, taskCell};
 ghost use Rattle.steps.specs.Steps.{stepped, settled, storeOf, promised, returned, obey as obeyOf};
 
+pub mod lights;
+
 // What the machine carries from one instruction to the next: where it stands, its mode, the future if one is promised, the words of tasks.
 pub struct Core {
     pub pc: u32,

@@ -5,7 +5,8 @@ use Rattle.machine.specs.Store.{reaction}
 use denote.Ref.{now}
 use native.Mathlib.Nat.{sub-zero}
 use mathlib.Core.List.{List}
-use mathlib.Core.Path.{_≡_, sym}
+use native.Mathlib.Omega.{arith}
+use mathlib.Core.Path.{_≡_, refl, sym, _∙_}
 use Prim.Native.Nat.{ℕ, _-_, _≤_}
 use borrow.Author.Needs.{needs}
 use Rattle.react.proofs.obey_all.Statement.{statement}
@@ -21,26 +22,35 @@ abbrev μ-loop : tie.MeasureT-loop
 loop-holds : tie.Need-loop-holds Inv-loop μ-loop
 loop-holds c = (search needs, λ before. let a = c .before .before .before .before .before .before .args in rw sub-zero (sym (whole-run (reactive (a .instructions) (now (a .code)) (now (a .drivers)) (now (a .guards)) (now (a .modes)) (now (a .tasks))) _ before _ _ _ _ (length-tab _ _))))
 
+slide-requires : tie.Need-slide-requires Inv-loop μ-loop
+slide-requires c κs = search needs
+
 step-requires : tie.Need-step-requires Inv-loop μ-loop
 step-requires c κs = search needs
 
 add-steps : tie.Need-add-steps Inv-loop μ-loop
-add-steps c = search needs
+add-steps c = let within = c .before .before .slide .ensures .within in omega arith
 
 enum-known-after : tie.Need-enum-known-after Inv-loop μ-loop
 enum-known-after c = search needs
 
 loop-less : tie.Need-loop-less Inv-loop μ-loop
-loop-less c = search needs
+loop-less c = let slid = c .before .before .before .before .before .slide .ensures in omega (arith, slid .ahead, slid .within)
 
 loop-again : tie.Need-loop-again Inv-loop μ-loop
-loop-again c = (search needs, λ before. goes-on _ _ before _ _ _ _ _ (c .before .before .before .before .before .before .loop .inv .1 before) (c .before .before .before .before .before .loop-test .taken) _ _ (rw (c .before .after .given .1) at (c .before .before .before .step .ensures)))
+loop-again c = let slid = c .before .before .before .before .before .slide .ensures in
+    let loop = c .before .before .before .before .before .before .before .before .loop in
+    let a = c .before .before .before .before .before .before .before .before .before .before .before .before .before .before .before .args in
+    (omega (arith, slid .within), λ before. goes-on _ _ before _ _ _ _ _ (loop .inv .1 before ∙ slid .same (now (a .modes)) (now (a .tasks)) (now (a .aside)) before (loop .core) refl) (slid .within) _ _ (rw (c .before .after .given .1) at (c .before .before .before .step .ensures)))
 
 enum-known-after-2 : tie.Need-enum-known-after-2 Inv-loop μ-loop
 enum-known-after-2 c = search needs
 
 returns : tie.Need-returns Inv-loop μ-loop
-returns c = λ before. ends _ _ before _ _ _ _ _ (c .before .before .before .before .before .before .loop .inv .1 before) (c .before .before .before .before .before .loop-test .taken) _ _ (rw (c .before .after2 .given .1) at (c .before .before .before .step .ensures))
+returns c = let slid = c .before .before .before .before .before .slide .ensures in
+    let loop = c .before .before .before .before .before .before .before .before .loop in
+    let a = c .before .before .before .before .before .before .before .before .before .before .before .before .before .before .before .args in
+    λ before. ends _ _ before _ _ _ _ _ (loop .inv .1 before ∙ slid .same (now (a .modes)) (now (a .tasks)) (now (a .aside)) before (loop .core) refl) (slid .within) _ _ (rw (c .before .after2 .given .1) at (c .before .before .before .step .ensures))
 
 returns-2 : tie.Need-returns-2 Inv-loop μ-loop
 returns-2 c = λ before. let a = c .before .before .before .before .before .before .before .before .args in over (reactive (a .instructions) (now (a .code)) (now (a .drivers)) (now (a .guards)) (now (a .modes)) (now (a .tasks))) (now (a .aside)) before _ _ (c .before .loop .steps) (c .before .loop .core) (c .before .loop .ports) (c .before .loop .inv .1 before) (c .loop-test .left) (c .before .loop .ports)
@@ -52,6 +62,7 @@ obey-all-spec =
     Inv-loop
     μ-loop
     loop-holds
+    slide-requires
     step-requires
     add-steps
     enum-known-after
