@@ -79,7 +79,7 @@ module _ (k : ℕ) (h : k < 22) where
   unfolding placed
   key-place = eqb→eq _ _ (both-right (eqb (marked (markOf (keyword k))) k) (eqb (placeIn keywords 0 (keyword k)) k) (every-placed k h))
 
-  is-keyword : (w : List ℕ) → same w (keyword k) ≡ true → w ≡ keyword k
+  pub is-keyword : (w : List ℕ) → same w (keyword k) ≡ true → w ≡ keyword k
   is-keyword w e = same→eq w (keyword k) (rw e tt)
 
   pub place-at : (w : List ℕ) → same w (keyword k) ≡ true → placeIn keywords 0 w ≡ k
@@ -95,7 +95,7 @@ none-of (v ∷ vs) n w h =
     let on = none-of vs (n + 1) w (λ j g. h (suc j) (omega arith)) in
     simp first (on ∙ omega arith)
 
-no-keyword : (w : List ℕ) → ((j : ℕ) → j < 22 → same w (keyword j) ≡ false) → placeIn keywords 0 w ≡ 22
+pub no-keyword : (w : List ℕ) → ((j : ℕ) → j < 22 → same w (keyword j) ≡ false) → placeIn keywords 0 w ≡ 22
 unfolding keywords
 no-keyword w h = none-of keywords 0 w h
 

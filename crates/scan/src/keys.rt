@@ -1,6 +1,6 @@
 // Keywords.
 ghost use mathlib.Core.Path.{_≡_};
-ghost use Prim.Native.Nat.{_≤_, _<_};
+ghost use Prim.Native.Nat.{_+_, _≤_, _<_};
 ghost use lib.ListN.{length};
 ghost use lib.Seq.{slice};
 ghost use Rattle.model.specs.Bytes.{placeIn, same as sameWord};
@@ -9,32 +9,6 @@ ghost use Rattle.text.specs.Tokens.{keyToken, wordToken};
 ghost use Rattle.scan.specs.KeyMarks.{marked};
 use super::words;
 use text::Token;
-
-// The keywords' tokens.
-const TOKENS: [Token; 22] = [
-    Token::KeyActuator,
-    Token::KeyAs,
-    Token::KeyAsynchronous,
-    Token::KeyConst,
-    Token::KeyFalse,
-    Token::KeyIf,
-    Token::KeyImport,
-    Token::KeyInit,
-    Token::KeyInput,
-    Token::KeyMode,
-    Token::KeyModule,
-    Token::KeyOutput,
-    Token::KeyPublic,
-    Token::KeySensor,
-    Token::KeyStart,
-    Token::KeyState,
-    Token::KeyStruct,
-    Token::KeyTask,
-    Token::KeyThen,
-    Token::KeyTrue,
-    Token::KeyType,
-    Token::KeyUses,
-];
 
 // The only keyword that a word can be, by its mark: its first letter, twice its last but one and five times its length. 22 where it can be none.
 fn candidate(mark: usize) -> usize
@@ -67,34 +41,35 @@ fn candidate(mark: usize) -> usize
     }
 }
 
-// Whether the bytes from start up to end are keyword k.
-fn spells(s: &[u8], start: usize, end: usize, k: usize) -> bool
-    ensures { λ r. ⌜ r ≡ sameWord (slice start end (now (s .entry))) (keyword k) ⌝ }
+// Whether the n bytes from start on are keyword k.
+fn spells(s: &[u8], start: usize, n: usize, k: usize) -> bool
+    requires { ⌜ start + n ≤ length (now s) ⌝ }
+    ensures { λ r. ⌜ r ≡ sameWord (slice start (start + n) (now (s .entry))) (keyword k) ⌝ }
 {
     match k {
-        0 => words::same(s, start, end, b"actuator"),
-        1 => words::same(s, start, end, b"as"),
-        2 => words::same(s, start, end, b"asynchronous"),
-        3 => words::same(s, start, end, b"const"),
-        4 => words::same(s, start, end, b"false"),
-        5 => words::same(s, start, end, b"if"),
-        6 => words::same(s, start, end, b"import"),
-        7 => words::same(s, start, end, b"init"),
-        8 => words::same(s, start, end, b"input"),
-        9 => words::same(s, start, end, b"mode"),
-        10 => words::same(s, start, end, b"module"),
-        11 => words::same(s, start, end, b"output"),
-        12 => words::same(s, start, end, b"public"),
-        13 => words::same(s, start, end, b"sensor"),
-        14 => words::same(s, start, end, b"start"),
-        15 => words::same(s, start, end, b"state"),
-        16 => words::same(s, start, end, b"struct"),
-        17 => words::same(s, start, end, b"task"),
-        18 => words::same(s, start, end, b"then"),
-        19 => words::same(s, start, end, b"true"),
-        20 => words::same(s, start, end, b"type"),
-        21 => words::same(s, start, end, b"uses"),
-        _ => words::same(s, start, end, b""),
+        0 => words::alike(s, start, n, b"actuator"),
+        1 => words::alike(s, start, n, b"as"),
+        2 => words::alike(s, start, n, b"asynchronous"),
+        3 => words::alike(s, start, n, b"const"),
+        4 => words::alike(s, start, n, b"false"),
+        5 => words::alike(s, start, n, b"if"),
+        6 => words::alike(s, start, n, b"import"),
+        7 => words::alike(s, start, n, b"init"),
+        8 => words::alike(s, start, n, b"input"),
+        9 => words::alike(s, start, n, b"mode"),
+        10 => words::alike(s, start, n, b"module"),
+        11 => words::alike(s, start, n, b"output"),
+        12 => words::alike(s, start, n, b"public"),
+        13 => words::alike(s, start, n, b"sensor"),
+        14 => words::alike(s, start, n, b"start"),
+        15 => words::alike(s, start, n, b"state"),
+        16 => words::alike(s, start, n, b"struct"),
+        17 => words::alike(s, start, n, b"task"),
+        18 => words::alike(s, start, n, b"then"),
+        19 => words::alike(s, start, n, b"true"),
+        20 => words::alike(s, start, n, b"type"),
+        21 => words::alike(s, start, n, b"uses"),
+        _ => words::alike(s, start, n, b""),
     }
 }
 
@@ -113,7 +88,7 @@ fn place(s: &[u8], start: usize, end: usize) -> usize
     let near = words::wide(s[end - 2]);
     let k = candidate(words::wide(s[start]) + near * 2 + n * 5);
     if k < 22 {
-        if spells(s, start, end, k) {
+        if spells(s, start, n, k) {
             return k;
         }
     }
@@ -124,14 +99,35 @@ fn place(s: &[u8], start: usize, end: usize) -> usize
 fn key_token(k: usize) -> Token
     ensures { λ r. ⌜ r ≡ keyToken k ⌝ }
 {
-    if k < 22 {
-        return TOKENS[k];
+    match k {
+        0 => Token::KeyActuator,
+        1 => Token::KeyAs,
+        2 => Token::KeyAsynchronous,
+        3 => Token::KeyConst,
+        4 => Token::KeyFalse,
+        5 => Token::KeyIf,
+        6 => Token::KeyImport,
+        7 => Token::KeyInit,
+        8 => Token::KeyInput,
+        9 => Token::KeyMode,
+        10 => Token::KeyModule,
+        11 => Token::KeyOutput,
+        12 => Token::KeyPublic,
+        13 => Token::KeySensor,
+        14 => Token::KeyStart,
+        15 => Token::KeyState,
+        16 => Token::KeyStruct,
+        17 => Token::KeyTask,
+        18 => Token::KeyThen,
+        19 => Token::KeyTrue,
+        20 => Token::KeyType,
+        21 => Token::KeyUses,
+        _ => Token::Name,
     }
-    Token::Name
 }
 
 // The token of a word: a keyword, or else a name.
-pub fn word_token(s: &[u8], start: usize, end: usize) -> Token
+pub(crate) fn word_token(s: &[u8], start: usize, end: usize) -> Token
     requires { ⌜ (start ≤ end) × (end ≤ length (now s)) ⌝ }
     ensures { λ r. ⌜ r ≡ wordToken (slice start end (now (s .entry))) ⌝ }
 {

@@ -3,9 +3,12 @@
 // Builds on text and model.
 ghost use mathlib.Core.Path.{_≡_};
 ghost use Rattle.text.specs.Tokens.{codeOf, signToken, lexed, startsAt, tokenAt, codeAt, stands as standsAt};
-ghost use Rattle.scan.specs.Runs.{colonEquals};
+ghost use Prim.Native.Nat.{_<_};
+ghost use mathlib.Core.Bool.{true};
+ghost use lib.ListN.{length, getD};
+ghost use Rattle.scan.specs.Runs.{colonEquals, small};
+ghost use Rattle.scan.specs.Others.{SignOf, Other};
 use text::Lexed;
-use text::Skipped;
 use text::Token;
 
 mod keys;
@@ -81,6 +84,26 @@ fn sign(b: u8) -> Token
     }
 }
 
+// Whether a byte alone is a sign.
+fn is_sign(b: u8) -> bool
+    ensures { λ r. ⌜ SignOf b r ⌝ }
+{
+    match b {
+        b'{' => true,
+        b'}' => true,
+        b'[' => true,
+        b']' => true,
+        b'(' => true,
+        b')' => true,
+        b';' => true,
+        b'=' => true,
+        b'.' => true,
+        b',' => true,
+        b'-' => true,
+        _ => false,
+    }
+}
+
 // Whether b and the byte at a place behind it are `:=`.
 fn becomes(s: &[u8], next: usize, b: u8) -> bool
     ensures { λ r. ⌜ r ≡ colonEquals (now (s .entry)) next b ⌝ }
@@ -104,35 +127,57 @@ fn found(token: Token, start: usize, end: usize) -> Lexed
     }
 }
 
-// The token that starts at a place; the end behind the last byte.
-fn starts_at(s: &[u8], at: usize) -> Lexed
+// The word that starts at a place with a small letter: a keyword, or else a name.
+fn word(s: &[u8], at: usize) -> Lexed
+    requires { ⌜ (at < length (now s)) × (small (getD (now s) at 0) ≡ true) ⌝ }
     ensures { λ r. ⌜ r ≡ startsAt (now (s .entry)) at ⌝ }
 {
-    if s.len() <= at {
-        return found(Token::End, at, at);
+    match words::word_run(s, at) {
+        words::Run::Name(end) => found(Token::Name, at, end),
+        words::Run::Word(end) => found(keys::word_token(s, at, end), at, end),
     }
-    let b = s[at];
+}
+
+// The token that starts at a place with a byte b that is no small letter and no sign.
+fn other(s: &[u8], at: usize, b: u8) -> Lexed
+    requires { ⌜ Other (now s) at b ⌝ }
+    ensures { λ r. ⌜ r ≡ startsAt (now (s .entry)) at ⌝ }
+{
     let next = at + 1;
-    if words::is_letter(b) {
-        let end = words::run_end(s, next, false);
-        return found(keys::word_token(s, at, end), at, end);
-    }
     if words::is_digit(b) {
         return found(Token::Number, at, words::run_end(s, next, true));
+    }
+    if words::is_letter(b) {
+        return found(Token::Name, at, words::run_end(s, next, false));
     }
     if becomes(s, next, b) {
         return found(Token::Becomes, at, next + 1);
     }
-    found(sign(b), at, next)
+    found(Token::Bad, at, next)
+}
+
+// The token that starts at a place with byte b.
+fn starts_at(s: &[u8], at: usize, b: u8) -> Lexed
+    requires { ⌜ (at < length (now s)) × (getD (now s) at 0 ≡ b) ⌝ }
+    ensures { λ r. ⌜ r ≡ startsAt (now (s .entry)) at ⌝ }
+{
+    if words::is_small(b) {
+        return word(s, at);
+    }
+    if is_sign(b) {
+        return found(sign(b), at, at + 1);
+    }
+    other(s, at, b)
 }
 
 // The token at a place of the text, behind white space and comments.
 pub fn token(s: &[u8], at: usize) -> Lexed
     ensures { λ r. ⌜ r ≡ tokenAt (now (s .entry)) at ⌝ }
 {
-    match spaces::skip(s, at) {
-        Skipped::Stop(place) => starts_at(s, place),
-        Skipped::Open(place) => found(Token::Bad, place, place),
+    match spaces::first(s, at) {
+        spaces::Place::Byte(place, b) => starts_at(s, place, b),
+        spaces::Place::End(place) => found(Token::End, place, place),
+        spaces::Place::Open(place) => found(Token::Bad, place, place),
     }
 }
 

@@ -3,12 +3,20 @@ ghost use mathlib.Core.Path.{_≡_};
 ghost use Prim.Native.Nat.{_≤_};
 ghost use Rattle.text.specs.Spaces.{white, spacesAt, lineAt};
 ghost use Rattle.scan.specs.Blocks.{BlockEnds};
+ghost use Rattle.scan.specs.Places.{Reached};
 use text::Skipped;
 
 // The place behind a block comment's `*/`, or none.
 pub enum Block {
     Past(usize),
     Never,
+}
+
+// Where white space and comments end: at a byte, at the end of the text, or at the start of a comment that is not closed.
+pub enum Place {
+    Byte(usize, u8),
+    End(usize),
+    Open(usize),
 }
 
 fn is_white(b: u8) -> bool
@@ -57,7 +65,7 @@ fn block_end(s: &[u8], at: usize) -> Block
 }
 
 // Where white space and comments that begin at a place end.
-pub fn skip(s: &[u8], at: usize) -> Skipped
+fn skip(s: &[u8], at: usize) -> Skipped
     ensures { λ r. ⌜ r ≡ spacesAt (now (s .entry)) at ⌝ }
 {
     let mut i = at;
@@ -89,4 +97,38 @@ pub fn skip(s: &[u8], at: usize) -> Skipped
         }
     }
     Skipped::Stop(i)
+}
+
+// The byte behind white space and comments that begin at a place, perhaps with a slash.
+fn behind(s: &[u8], at: usize) -> Place
+    ensures { λ r. ⌜ Reached (now (s .entry)) at r ⌝ }
+{
+    match skip(s, at) {
+        Skipped::Stop(place) => {
+            if place < s.len() {
+                return Place::Byte(place, s[place]);
+            }
+            Place::End(place)
+        }
+        Skipped::Open(place) => Place::Open(place),
+    }
+}
+
+// The byte behind white space and comments that begin at a place.
+pub fn first(s: &[u8], at: usize) -> Place
+    ensures { λ r. ⌜ Reached (now (s .entry)) at r ⌝ }
+{
+    let mut i = at;
+    while i < s.len() {
+        let b = s[i];
+        if is_white(b) {
+            i += 1;
+        } else {
+            if b == b'/' {
+                return behind(s, i);
+            }
+            return Place::Byte(i, b);
+        }
+    }
+    Place::End(i)
 }

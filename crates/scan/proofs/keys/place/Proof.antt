@@ -58,13 +58,19 @@ spells-requires : tie.Need-spells-requires
 spells-requires c κs = search needs
 
 returns-3 : tie.Need-returns-3
-returns-3 c = sym (law.place-at _ (c .before .before .if3 .taken) _ (sym (c .before .spells .ensures) ∙ c .if4 .taken))
+returns-3 c =
+    let args = c .before .before .before .before .before .before .before .before .before .before .before .args in
+    let whole : args .start + (args .end - args .start) ≡ args .end = omega arith in
+    let spelt = rw whole at (c .before .spells .ensures) in
+    sym (law.place-at _ (c .before .before .if3 .taken) _ (sym spelt ∙ c .if4 .taken))
 
 returns-4 : tie.Need-returns-4
 returns-4 c =
     let args = c .before .before .before .before .before .before .before .before .before .before .before .args in
     let mark = law.mark-slice (args .s .now) (args .start) (args .end) (search needs) (search needs) in
-    sym (law.unlike _ _ (c .before .before .before .candidate .ensures ∙ ap law.marked (rw (c .before .before .before .before .before .before .wide .ensures .0, c .before .before .before .before .wide2 .ensures .0) mark)) (λ h. sym (c .before .spells .ensures) ∙ c .if4 .left))
+    let whole : args .start + (args .end - args .start) ≡ args .end = omega arith in
+    let spelt = rw whole at (c .before .spells .ensures) in
+    sym (law.unlike _ _ (c .before .before .before .candidate .ensures ∙ ap law.marked (rw (c .before .before .before .before .before .before .wide .ensures .0, c .before .before .before .before .wide2 .ensures .0) mark)) (λ h. sym spelt ∙ c .if4 .left))
 
 returns-5 : tie.Need-returns-5
 returns-5 c =

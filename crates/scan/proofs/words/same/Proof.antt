@@ -1,89 +1,36 @@
-use Prim.Native.Nat.{_+_, _-_, _≤_}
-use mathlib.Core.Path.{_≡_, sym, _∙_}
-use native.Mathlib.Nat.{add-assoc, add-zero}
+use Prim.Native.Nat.{_+_, _-_, min}
+use mathlib.Core.Path.{_≡_, sym, ap, _∙_}
+use mathlib.Core.List.{List}
+use Prim.Native.Nat.{ℕ}
 use native.Mathlib.Omega.{arith}
-use lib.ListN.{drop}
-use lib.Seq.{slice}
+use lib.ListN.{length}
 use borrow.Author.Needs.{needs}
 use Rattle.model.specs.Bytes.{same}
-use Rattle.text.specs.WordsLaws as law
 use Rattle.scan.specs.Slices as slices
 use Rattle.scan.proofs.words.same.Statement.{statement}
 use Rattle.scan.proofs.words.same.Tie as tie
 
-abbrev Inv-loop : tie.InvT-loop
-Inv-loop s start end word stop n j₀ j = (j ≤ n) × (same (slice start end s) word ≡ same (slice (start + j) stop s) (drop j word))
-
-abbrev μ-loop : tie.MeasureT-loop
-μ-loop s start end word stop n j₀ j = n - j
-
-least-requires : tie.Need-least-requires Inv-loop μ-loop
+least-requires : tie.Need-least-requires
 least-requires c κs = search needs
 
-distance-requires : tie.Need-distance-requires Inv-loop μ-loop
-distance-requires c κs = search needs
-
-returns : tie.Need-returns Inv-loop μ-loop
+returns : tie.Need-returns
 returns c =
-    let args = c .before .before .before .before .before .args in
-    sym (law.same-lengths _ _ (λ p. c .if1 .taken (omega (arith, p, slices.slice-length (args .start) (args .end) (args .s .now)))))
+    let args = c .before .before .before .before .args in
+    let least = c .before .least in
+    sym (slices.same-empty (args .start) (args .end) (args .s .now) (args .word .now) (omega (arith, least .ensures, c .if1 .taken)))
 
-loop-holds : tie.Need-loop-holds Inv-loop μ-loop
-loop-holds c =
+sub-alike : tie.Need-sub-alike
+sub-alike c = search needs
+
+alike-requires : tie.Need-alike-requires
+alike-requires c κs = search needs
+
+returns-2 : tie.Need-returns-2
+returns-2 c =
     let args = c .before .before .before .before .before .args in
     let least = c .before .before .least in
-    (search needs, rw (add-zero, least .ensures, ← slices.slice-clamp (args .start) (args .end) (args .s .now)))
-
-add-if2 : tie.Need-add-if2 Inv-loop μ-loop
-add-if2 c = search needs
-
-shared-slice-read-if2 : tie.Need-shared-slice-read-if2 Inv-loop μ-loop
-shared-slice-read-if2 c = search needs
-
-shared-slice-read-if2-2 : tie.Need-shared-slice-read-if2-2 Inv-loop μ-loop
-shared-slice-read-if2-2 c = search needs
-
-returns-2 : tie.Need-returns-2 Inv-loop μ-loop
-returns-2 c =
-    let args = c .before .before .before .before .before .before .before .before .before .before .args in
-    let least = c .before .before .before .before .before .before .before .least in
-    let loop = c .before .before .before .before .loop in
-    sym (loop .inv .1 ∙ law.same-out _ _ (args .start + loop .j) (loop .j) (least .result) (omega arith) (omega arith) (omega arith) (c .if2 .taken))
-
-add-j : tie.Need-add-j Inv-loop μ-loop
-add-j c = search needs
-
-loop-less : tie.Need-loop-less Inv-loop μ-loop
-loop-less c = search needs
-
-loop-again : tie.Need-loop-again Inv-loop μ-loop
-loop-again c =
-    let args = c .before .before .before .before .before .before .before .before .before .before .args in
-    let least = c .before .before .before .before .before .before .before .least in
-    let loop = c .before .before .before .before .loop in
-    (search needs, loop .inv .1 ∙ law.same-on _ _ (args .start + loop .j) (loop .j) (least .result) (omega arith) (omega arith) (omega arith) (c .if2 .left) ∙ rw add-assoc)
-
-returns-3 : tie.Need-returns-3 Inv-loop μ-loop
-returns-3 c =
-    let args = c .before .before .before .before .before .before .before .args in
-    let least = c .before .before .before .before .least in
-    sym (c .before .loop .inv .1 ∙ slices.same-over _ (args .start + c .before .loop .j) (least .result) (omega arith) _ (c .before .loop .j) (omega arith))
+    let whole : args .start + (least .result - args .start) ≡ min (args .end) (length (args .s .now)) = omega (arith, least .ensures, c .before .if1 .left) in
+    rw whole at (c .alike .ensures) ∙ ap (λ (l : List ℕ). same l (args .word .now)) (sym (slices.slice-clamp (args .start) (args .end) (args .s .now)))
 
 pub same-spec : {M : Type 1} → statement M
-same-spec =
-    tie.close
-    (tie.spec
-    Inv-loop
-    μ-loop
-    least-requires
-    distance-requires
-    returns
-    loop-holds
-    add-if2
-    shared-slice-read-if2
-    shared-slice-read-if2-2
-    returns-2
-    add-j
-    loop-less
-    loop-again
-    returns-3)
+same-spec = tie.close (tie.spec least-requires returns sub-alike alike-requires returns-2)
