@@ -28,7 +28,7 @@ fn counted(s: &[u8], at: usize) -> usize
 }
 
 // The same where the first token is found: a first name is not looked at again.
-pub fn count(s: &[u8], at: usize, found: Lexed) -> usize
+pub(crate) fn count(s: &[u8], at: usize, found: Lexed) -> usize
     requires { ⌜ found ≡ tokenAt (now s) at ⌝ }
     ensures { λ r. ⌜ r ≡ countAt (now (s .entry)) at ⌝ }
 {

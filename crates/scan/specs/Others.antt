@@ -1,8 +1,8 @@
 -- Bytes that start a token: signs, and those that are no small letter and no sign.
 use Prim.Native.Nat.{ℕ, _+_, _<_}
-use mathlib.Core.Path.{_≡_, sym, _∙_}
+use mathlib.Core.Path.{_≡_, ap, _∙_}
 use mathlib.Core.List.{List}
-use mathlib.Core.Bool.{Bool, true, false}
+use mathlib.Core.Bool.{true, false}
 use native.Mathlib.Omega.{arith}
 use lib.ListN.{length, getD}
 use lib.Seq.{slice}
@@ -12,6 +12,8 @@ use Rattle.text.specs.Words.{letter, digit, wordByte, munchAt}
 use Rattle.text.specs.Tokens.{wordToken, signToken, lexed, startsAt}
 use Rattle.text.specs.StartsLaws as starts
 use Rattle.text.specs.TokensLaws.{munch-at-within}
+use Rattle.scan.specs.declared.Alone.{Alone}
+use Rattle.scan.specs.declared.Alone.the-variants.{Sign, Nothing}
 use Rattle.scan.specs.Runs.{small, colonEquals}
 use Rattle.scan.specs.WordBytes.{named, small-letter, digit-letter}
 
@@ -21,13 +23,13 @@ pub record Plain (b : ℕ) : Type 0 where
   pub uncounted : digit b ≡ false
   pub uncolon : eqb b 58 ≡ false
 
--- what a test for signs says
-abbrev pub SignOf : ℕ → Bool → Type 0
-SignOf b true = Plain b
-SignOf b false = signToken b ≡ Token.Bad
+-- what is told of a byte: the sign that it is, or that it is none
+abbrev pub SignOf : ℕ → Alone → Type 0
+SignOf b (Sign t) = Plain b × (signToken b ≡ t)
+SignOf b Nothing = signToken b ≡ Token.Bad
 
-pub sign-is : {b : ℕ} (k : ℕ) → Plain k → b ≡ k → Plain b
-sign-is k p e = rw e p
+pub sign-is : {b : ℕ} (k : ℕ) → Plain k → b ≡ k → SignOf b (Sign (signToken k))
+sign-is k p e = (rw e p, ap signToken e)
 
 -- a place whose byte is b, no small letter and no sign
 pub record Other (s : List ℕ) (at b : ℕ) : Type 0 where

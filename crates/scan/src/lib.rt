@@ -2,7 +2,7 @@
 // Promises that each function answers what the definitions of text say, at every place, also behind the end.
 // Builds on text and model.
 ghost use mathlib.Core.Path.{_≡_};
-ghost use Rattle.text.specs.Tokens.{codeOf, signToken, lexed, startsAt, tokenAt, codeAt, stands as standsAt};
+ghost use Rattle.text.specs.Tokens.{codeOf, lexed, startsAt, tokenAt, codeAt, stands as standsAt};
 ghost use Prim.Native.Nat.{_<_};
 ghost use mathlib.Core.Bool.{true};
 ghost use lib.ListN.{length, getD};
@@ -17,6 +17,12 @@ mod words;
 
 pub use words::same;
 pub use words::value;
+
+// The token that a byte alone is, or none.
+pub enum Alone {
+    Sign(Token),
+    Nothing,
+}
 
 // The number of a token.
 pub fn code(t: Token) -> u8
@@ -65,42 +71,22 @@ pub fn code(t: Token) -> u8
 }
 
 // The sign that a byte alone is.
-fn sign(b: u8) -> Token
-    ensures { λ r. ⌜ r ≡ signToken b ⌝ }
-{
-    match b {
-        b'{' => Token::LeftBrace,
-        b'}' => Token::RightBrace,
-        b'[' => Token::LeftBracket,
-        b']' => Token::RightBracket,
-        b'(' => Token::LeftParen,
-        b')' => Token::RightParen,
-        b';' => Token::Semicolon,
-        b'=' => Token::Equals,
-        b'.' => Token::Dot,
-        b',' => Token::Comma,
-        b'-' => Token::Minus,
-        _ => Token::Bad,
-    }
-}
-
-// Whether a byte alone is a sign.
-fn is_sign(b: u8) -> bool
+fn sign(b: u8) -> Alone
     ensures { λ r. ⌜ SignOf b r ⌝ }
 {
     match b {
-        b'{' => true,
-        b'}' => true,
-        b'[' => true,
-        b']' => true,
-        b'(' => true,
-        b')' => true,
-        b';' => true,
-        b'=' => true,
-        b'.' => true,
-        b',' => true,
-        b'-' => true,
-        _ => false,
+        b'{' => Alone::Sign(Token::LeftBrace),
+        b'}' => Alone::Sign(Token::RightBrace),
+        b'[' => Alone::Sign(Token::LeftBracket),
+        b']' => Alone::Sign(Token::RightBracket),
+        b'(' => Alone::Sign(Token::LeftParen),
+        b')' => Alone::Sign(Token::RightParen),
+        b';' => Alone::Sign(Token::Semicolon),
+        b'=' => Alone::Sign(Token::Equals),
+        b'.' => Alone::Sign(Token::Dot),
+        b',' => Alone::Sign(Token::Comma),
+        b'-' => Alone::Sign(Token::Minus),
+        _ => Alone::Nothing,
     }
 }
 
@@ -164,10 +150,10 @@ fn starts_at(s: &[u8], at: usize, b: u8) -> Lexed
     if words::is_small(b) {
         return word(s, at);
     }
-    if is_sign(b) {
-        return found(sign(b), at, at + 1);
+    match sign(b) {
+        Alone::Sign(t) => found(t, at, at + 1),
+        Alone::Nothing => other(s, at, b),
     }
-    other(s, at, b)
 }
 
 // The token at a place of the text, behind white space and comments.

@@ -52,8 +52,8 @@ fn block_end(s: &[u8], at: usize) -> Block
     let mut i = at;
     while i < s.len() {
         let next = i + 1;
-        if s[i] == b'*' {
-            if next < s.len() {
+        if next < s.len() {
+            if s[i] == b'*' {
                 if s[next] == b'/' {
                     return Block::Past(next + 1);
                 }

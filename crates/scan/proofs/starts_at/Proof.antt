@@ -16,11 +16,11 @@ word-requires c κs =
 returns : tie.Need-returns
 returns c = search needs
 
-is-sign-requires : tie.Need-is-sign-requires
-is-sign-requires c κs = search needs
-
 sign-requires : tie.Need-sign-requires
 sign-requires c κs = search needs
+
+enum-known-t : tie.Need-enum-known-t
+enum-known-t c = search needs
 
 add-found : tie.Need-add-found
 add-found c = search needs
@@ -28,22 +28,25 @@ add-found c = search needs
 found-requires : tie.Need-found-requires
 found-requires c κs = search needs
 
-returns-2 : tie.Need-returns-2
-returns-2 c =
-    let args = c .before .before .before .before .before .before .before .args in
-    let pre = c .before .before .before .before .before .before .before .pre in
-    let plain = rw (c .before .before .if2 .taken) at (c .before .before .before .is-sign .ensures) in
-    c .found .ensures ∙ rw (c .before .sign .ensures) (sym (law.starts-plain (args .s .now) (args .at) (args .b) (pre .0) (pre .1) plain))
+enum-told : tie.Need-enum-told
+enum-told c = search needs
 
 other-requires : tie.Need-other-requires
 other-requires c κs =
-    let pre = c .before .before .before .before .before .pre in
+    let pre = c .before .before .before .before .before .before .pre in
     record {
       inside = pre .0;
       byte = pre .1;
-      large = sym (c .before .before .before .is-small .ensures) ∙ c .before .before .if1 .left;
-      unsigned = rw (c .if2 .left) at (c .before .is-sign .ensures);
+      large = sym (c .before .before .before .before .is-small .ensures) ∙ c .before .before .before .if1 .left;
+      unsigned = rw (c .enum-told .given .1) at (c .before .before .sign .ensures);
     }
+
+returns-2 : tie.Need-returns-2
+returns-2 c =
+    let args = c .before .before .before .before .before .before .before .before .args in
+    let pre = c .before .before .before .before .before .before .before .before .pre in
+    let alone = rw (c .before .before .t .given .1) at (c .before .before .before .before .sign .ensures) in
+    c .found .ensures ∙ sym (law.starts-plain (args .s .now) (args .at) (args .b) (pre .0) (pre .1) (alone .0) ∙ rw (alone .1))
 
 returns-3 : tie.Need-returns-3
 returns-3 c = search needs
@@ -55,10 +58,11 @@ starts-at-spec =
     is-small-requires
     word-requires
     returns
-    is-sign-requires
     sign-requires
+    enum-known-t
     add-found
     found-requires
-    returns-2
+    enum-told
     other-requires
+    returns-2
     returns-3)

@@ -4,6 +4,7 @@ use lib.ListN.{length}
 use borrow.Author.Needs.{needs}
 use Rattle.text.specs.Spaces.{blockAt}
 use Rattle.text.specs.SpacesLaws as law
+use Rattle.scan.specs.Blocks.{block-over}
 use Rattle.scan.proofs.spaces.block_end.Statement.{statement}
 use Rattle.scan.proofs.spaces.block_end.Tie as tie
 
@@ -19,22 +20,22 @@ loop-holds c = search needs
 add-next : tie.Need-add-next Inv-loop μ-loop
 add-next c = search needs
 
-shared-slice-read-if1 : tie.Need-shared-slice-read-if1 Inv-loop μ-loop
-shared-slice-read-if1 c = search needs
+shared-slice-read-if2 : tie.Need-shared-slice-read-if2 Inv-loop μ-loop
+shared-slice-read-if2 c = search needs
 
 shared-slice-read-if3 : tie.Need-shared-slice-read-if3 Inv-loop μ-loop
 shared-slice-read-if3 c = search needs
 
-add-t14 : tie.Need-add-t14 Inv-loop μ-loop
-add-t14 c = search needs
+add-t13 : tie.Need-add-t13 Inv-loop μ-loop
+add-t13 c = search needs
 
 returns : tie.Need-returns Inv-loop μ-loop
 returns c =
     let loop = c .before .before .before .before .before .before .loop in
     let loop-test = c .before .before .before .before .before .loop-test in
-    let if1 = c .before .before .before .if1 in
+    let if1 = c .before .before .before .before .if1 in
     let if2 = c .before .before .if2 in
-    (search needs, λ start. loop .inv .1 start ∙ law.block-out _ _ (loop-test .taken) (if1 .taken) (if2 .taken) (c .if3 .taken) start)
+    (search needs, λ start. loop .inv .1 start ∙ law.block-out _ _ (loop-test .taken) (if2 .taken) (if1 .taken) (c .if3 .taken) start)
 
 loop-less : tie.Need-loop-less Inv-loop μ-loop
 loop-less c = search needs
@@ -43,9 +44,9 @@ loop-again : tie.Need-loop-again Inv-loop μ-loop
 loop-again c =
     let loop = c .before .before .before .before .before .before .loop in
     let loop-test = c .before .before .before .before .before .loop-test in
-    let if1 = c .before .before .before .if1 in
+    let if1 = c .before .before .before .before .if1 in
     let if2 = c .before .before .if2 in
-    (search needs, λ start. loop .inv .1 start ∙ law.block-lone _ _ (loop-test .taken) (if1 .taken) (if2 .taken) (c .if3 .left) start)
+    (search needs, λ start. loop .inv .1 start ∙ law.block-lone _ _ (loop-test .taken) (if2 .taken) (if1 .taken) (c .if3 .left) start)
 
 loop-less-2 : tie.Need-loop-less-2 Inv-loop μ-loop
 loop-less-2 c = search needs
@@ -54,16 +55,16 @@ loop-again-2 : tie.Need-loop-again-2 Inv-loop μ-loop
 loop-again-2 c =
     let loop = c .before .before .before .before .loop in
     let loop-test = c .before .before .before .loop-test in
-    (search needs, λ start. loop .inv .1 start ∙ law.block-last _ _ (loop-test .taken) (c .before .if1 .taken) (c .if2 .left) start)
+    (search needs, λ start. loop .inv .1 start ∙ law.block-on _ _ (loop-test .taken) (c .if2 .left) start)
 
 loop-less-3 : tie.Need-loop-less-3 Inv-loop μ-loop
 loop-less-3 c = search needs
 
 loop-again-3 : tie.Need-loop-again-3 Inv-loop μ-loop
 loop-again-3 c =
-    let loop = c .before .before .before .loop in
-    let loop-test = c .before .before .loop-test in
-    (search needs, λ start. loop .inv .1 start ∙ law.block-on _ _ (loop-test .taken) (c .if1 .left) start)
+    let args = c .before .before .before .args in
+    let loop = c .before .before .loop in
+    (search needs, λ start. loop .inv .1 start ∙ block-over (args .s .now) (loop .i) (c .before .loop-test .taken) (c .if1 .left) start)
 
 returns-2 : tie.Need-returns-2 Inv-loop μ-loop
 returns-2 c = λ start. c .before .loop .inv .1 start ∙ law.block-end _ _ (c .loop-test .left) start
@@ -76,9 +77,9 @@ block-end-spec =
     μ-loop
     loop-holds
     add-next
-    shared-slice-read-if1
+    shared-slice-read-if2
     shared-slice-read-if3
-    add-t14
+    add-t13
     returns
     loop-less
     loop-again
