@@ -53,6 +53,20 @@ puts-none {l} {at} = record { is = sym (stored-none l at); goes = omega arith }
 pub puts-one : {l : List ℕ} {at : ℕ} (cell : ℕ) → at < length l → Puts l at (cell ∷ []) (set l at cell) (at + 1)
 puts-one {l} {at} cell h = record { is = sym (stored-one l at cell); goes = omega arith }
 
+pub puts-four : {l : List ℕ} {at : ℕ} (a b c d : ℕ) → at + 4 ≤ length l
+    → Puts l at (a ∷ b ∷ c ∷ d ∷ []) (set (set (set (set l at a) (at + 1) b) (at + 2) c) (at + 3) d) (at + 4)
+puts-four {l} {at} a b c d h =
+    let two = set (set l at a) (at + 1) b in
+    let third : at + 1 + 1 ≡ at + 2 = omega arith in
+    let fourth : at + 2 + 1 ≡ at + 3 = omega arith in
+    record {
+      is =
+        sym
+        (stored-then l at a (b ∷ c ∷ d ∷ []) ∙ stored-then (set l at a) (at + 1) b (c ∷ d ∷ []) ∙ ap (λ (k : ℕ). stored two k (c ∷ d ∷ [])) third ∙ stored-then two (at + 2) c (d ∷ [])
+        ∙ ap (λ (k : ℕ). stored (set two (at + 2) c) k (d ∷ [])) fourth ∙ stored-one (set two (at + 2) c) (at + 3) d);
+      goes = omega arith;
+    }
+
 pub puts-out : {l : List ℕ} {at : ℕ} (bytes : List ℕ) → length l ≤ at → Puts l at bytes l at
 puts-out {l} {at} bytes h = record { is = sym (stored-out l at bytes h); goes = omega arith }
 

@@ -29,11 +29,28 @@ pub(crate) fn pair(buffer: &mut [u8], at: usize, number: u32) -> usize
     byte(buffer, next, number)
 }
 
-pub fn quad(buffer: &mut [u8], at: usize, number: u32) -> usize
+// Four bytes where the buffer may end within them.
+fn cut_quad(buffer: &mut [u8], at: usize, number: u32) -> usize
     ensures { λ r. ⌜ Puts (now (buffer .entry)) at (quadOf number) (now (buffer .exit)) r ⌝ }
 {
     let next = pair(buffer, at, number / 65536);
     pair(buffer, next, number)
+}
+
+pub fn quad(buffer: &mut [u8], at: usize, number: u32) -> usize
+    ensures { λ r. ⌜ Puts (now (buffer .entry)) at (quadOf number) (now (buffer .exit)) r ⌝ }
+{
+    if buffer.len() < 4 {
+        return cut_quad(buffer, at, number);
+    }
+    if buffer.len() - 4 < at {
+        return cut_quad(buffer, at, number);
+    }
+    buffer[at] = (number / 65536 / 256 % 256) as u8;
+    buffer[at + 1] = (number / 65536 % 256) as u8;
+    buffer[at + 2] = (number / 256 % 256) as u8;
+    buffer[at + 3] = (number % 256) as u8;
+    at + 4
 }
 
 // A number that is over its room: the room.
