@@ -24,22 +24,34 @@ fn with(last: Got, first: Got, second: Got, dotted: bool, found: Lexed) -> Ahead
         second: name_of(second),
         dotted: dotted,
     };
+    // Field by field: a copy of the whole takes along what lies between them.
+    let past = Got {
+        bad: last.bad,
+        start: last.start,
+        end: last.end,
+    };
+    let token = found.token;
+    let behind = Lexed {
+        token: token,
+        start: found.start,
+        end: found.end,
+    };
     Ahead {
-        past: last,
+        past: past,
         port: port,
-        found: found,
+        found: behind,
     }
 }
 
 pub fn read(s: &[u8], g: Got) -> Ahead
     ensures { λ r. ⌜ r ≡ aheadOf (portAt (now (s .entry)) g) (tokenAt (now (s .entry)) (portAt (now (s .entry)) g .end)) ⌝ }
 {
-    let name = wants::next(s, g, Token::Name);
+    let name = wants::next_name(s, g);
     let at = name.end;
     let found = scan::token(s, at);
     if wants::stands(found, Token::Dot) {
-        let dot = wants::given(name, found, Token::Dot);
-        let output = wants::next(s, dot, Token::Name);
+        let dot = wants::given_dot(name, found);
+        let output = wants::next_name(s, dot);
         let end = output.end;
         let behind = scan::token(s, end);
         return with(output, name, output, true, behind);

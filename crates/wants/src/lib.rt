@@ -146,6 +146,22 @@ pub fn next(s: &[u8], g: Got, t: Token) -> Got
     given(g, found, t)
 }
 
+// The next token, which must be a name.
+pub fn next_name(s: &[u8], g: Got) -> Got
+    ensures { λ r. ⌜ r ≡ want Token.Name (now (s .entry)) g ⌝ }
+{
+    let at = g.end;
+    let found = scan::token(s, at);
+    name(g, found)
+}
+
+// The token found, which must be a dot.
+pub fn given_dot(g: Got, found: Lexed) -> Got
+    ensures { λ r. ⌜ r ≡ wantOf Token.Dot found g ⌝ }
+{
+    signs::dot(g, found)
+}
+
 // A name that was read, where it is spelt as a word; another name is 3.
 pub fn spelt(s: &[u8], name: Got, word: &[u8]) -> Got
     ensures { λ r. ⌜ r ≡ spelling (now (word .entry)) (now (s .entry)) name ⌝ }

@@ -61,9 +61,9 @@ puts-four {l} {at} a b c d h =
     let fourth : at + 2 + 1 ≡ at + 3 = omega arith in
     record {
       is =
-        sym
-        (stored-then l at a (b ∷ c ∷ d ∷ []) ∙ stored-then (set l at a) (at + 1) b (c ∷ d ∷ []) ∙ ap (λ (k : ℕ). stored two k (c ∷ d ∷ [])) third ∙ stored-then two (at + 2) c (d ∷ [])
-        ∙ ap (λ (k : ℕ). stored (set two (at + 2) c) k (d ∷ [])) fourth ∙ stored-one (set two (at + 2) c) (at + 3) d);
+          sym
+          (stored-then l at a (b ∷ c ∷ d ∷ []) ∙ stored-then (set l at a) (at + 1) b (c ∷ d ∷ []) ∙ ap (λ (k : ℕ). stored two k (c ∷ d ∷ [])) third ∙ stored-then two (at + 2) c (d ∷ [])
+          ∙ ap (λ (k : ℕ). stored (set two (at + 2) c) k (d ∷ [])) fourth ∙ stored-one (set two (at + 2) c) (at + 3) d);
       goes = omega arith;
     }
 

@@ -5,8 +5,8 @@ use borrow.Author.Needs.{needs}
 use Rattle.productions.proofs.ports.read.Statement.{statement}
 use Rattle.productions.proofs.ports.read.Tie as tie
 
-next-requires : tie.Need-next-requires
-next-requires c κs = search needs
+next-name-requires : tie.Need-next-name-requires
+next-name-requires c κs = search needs
 
 token-requires : tie.Need-token-requires
 token-requires c κs = search needs
@@ -14,11 +14,11 @@ token-requires c κs = search needs
 stands-requires : tie.Need-stands-requires
 stands-requires c κs = search needs
 
-given-requires : tie.Need-given-requires
-given-requires c κs = search needs
+given-dot-requires : tie.Need-given-dot-requires
+given-dot-requires c κs = search needs
 
-next-requires-2 : tie.Need-next-requires-2
-next-requires-2 c κs = search needs
+next-name-requires-2 : tie.Need-next-name-requires-2
+next-name-requires-2 c κs = search needs
 
 token-requires-2 : tie.Need-token-requires-2
 token-requires-2 c κs = search needs
@@ -29,12 +29,12 @@ with-requires c κs = search needs
 returns : tie.Need-returns
 unfolding portAt
 returns c =
-    let next = c .before .before .before .before .before .before .before .next in
+    let next = c .before .before .before .before .before .before .before .next-name in
     let token = c .before .before .before .before .before .before .token in
     let stands = c .before .before .before .before .before .stands in
     let if1 = c .before .before .before .before .if1 in
-    let given = c .before .before .before .given in
-    let next2 = c .before .before .next2 in
+    let given = c .before .before .before .given-dot in
+    let next2 = c .before .before .next-name2 in
     let token2 = c .before .token2 in
     c .with .ensures ∙ sym (simp (← next .ensures, ← token .ensures, ← given .ensures ∙ want-of _ _ _ (token .ensures) _, ← next2 .ensures, ← token2 .ensures, sym (stands .ensures) ∙ if1 .taken))
 
@@ -44,7 +44,7 @@ with-requires-2 c κs = search needs
 returns-2 : tie.Need-returns-2
 unfolding portAt
 returns-2 c =
-    let next = c .before .before .before .before .next in
+    let next = c .before .before .before .before .next-name in
     let token = c .before .before .before .token in
     let stands = c .before .before .stands in
     let if1 = c .before .if1 in
@@ -54,11 +54,11 @@ pub read-spec : {M : Type 1} → statement M
 read-spec =
     tie.close
     (tie.spec
-    next-requires
+    next-name-requires
     token-requires
     stands-requires
-    given-requires
-    next-requires-2
+    given-dot-requires
+    next-name-requires-2
     token-requires-2
     with-requires
     returns
