@@ -1,7 +1,7 @@
 -- Chains of places: of the places of one class, each names the last before it.
 use Prim.Native.Nat.{ℕ, zero, suc, _-_, _≤_, _<_}
 use native.Mathlib.Omega.{arith}
-use mathlib.Core.Path.{_≡_, refl, _∙_}
+use mathlib.Core.Path.{_≡_, refl, sym, _∙_}
 use mathlib.Core.Bool.{Bool, true, false, cond}
 use borrow.Author.Tests.{eqb-true, eqb-false, ltb-true, ltb-false, lt-ltb, le-ltb}
 use lib.Dec.{eqb, ltb}
@@ -74,6 +74,50 @@ module _ (test : ℕ → Bool) (k found : ℕ) where
   unfolding lowest
   lowest-miss e = rw e
 
+-- the place that was found is one where the test holds
+pub lowest-holds : (test : ℕ → Bool) (k found : ℕ) → ((found ≡ 0 → ⊥) → test (found - 1) ≡ true) → (lowest test k found ≡ 0 → ⊥) → test (lowest test k found - 1) ≡ true
+unfolding lowest
+lowest-holds test zero found h z = h z
+lowest-holds test (suc k) found h z = by (lowest-holds test k) (test k) refl
+  where
+    by : ((then : ℕ) → ((then ≡ 0 → ⊥) → test (then - 1) ≡ true) → (lowest test k then ≡ 0 → ⊥) → test (lowest test k then - 1) ≡ true) → (b : Bool) → test k ≡ b → test (lowest test (suc k) found - 1) ≡ true
+    by on true e = let is : suc k - 1 ≡ k = omega arith in rw e (on (suc k) (λ q. rw is e) (λ q. z (rw e q)))
+    by on false e = rw e (on found h (λ q. z (rw e q)))
+
+-- a test that holds only where a wider one does
+module _ (test wider : ℕ → Bool) (within : (j : ℕ) → test j ≡ true → wider j ≡ true) where
+  misses : (k : ℕ) → wider k ≡ false → (b : Bool) → test k ≡ b → test k ≡ false
+  misses k e true p = let z : _≡_ {A = Bool} false true = sym e ∙ within k p in let q : _≡_ {A = ℕ} 0 1 = cc in absurd (omega arith)
+  misses k e false p = p
+
+  -- where the wider one holds nowhere, nor does the test
+  pub lowest-none : (k found : ℕ) → lowest wider k found ≡ 0 → (found ≡ 0) × (lowest test k 0 ≡ 0)
+  unfolding lowest
+  lowest-none zero found e = (e, refl)
+  lowest-none (suc k) found e = by (lowest-none k) (wider k) refl
+    where
+      by : ((then : ℕ) → lowest wider k then ≡ 0 → (then ≡ 0) × (lowest test k 0 ≡ 0)) → (b : Bool) → wider k ≡ b → (found ≡ 0) × (lowest test (suc k) 0 ≡ 0)
+      by on true p = let none = on (suc k) (rw p at e) in absurd (omega (arith, none .0))
+      by on false p = let none = on found (rw p at e) in (none .0, rw (misses k p (test k) refl) (none .1))
+
+  -- where the test holds at the lowest place at which the wider one does, it is the test's lowest place too
+  pub lowest-same : (k found then place : ℕ) → lowest wider k found ≡ place → test (place - 1) ≡ true → (place ≡ found → then ≡ found) → lowest test k then ≡ place
+  unfolding lowest
+  lowest-same zero found then place e t h = h (sym e) ∙ e
+  lowest-same (suc k) found then place e t h = by (lowest-same k) (wider k) refl (test k) refl
+    where
+      by : ((found then place : ℕ) → lowest wider k found ≡ place → test (place - 1) ≡ true → (place ≡ found → then ≡ found) → lowest test k then ≡ place) → (b : Bool) → wider k ≡ b → (d : Bool) → test k ≡ d → lowest test (suc k) then ≡ place
+      by on true p true q = rw q (on (suc k) (suc k) place (rw p at e) t (λ z. refl))
+      by on true p false q = rw q (on (suc k) then place (rw p at e) t (λ z. absurd (never z)))
+        where
+          never : place ≡ suc k → ⊥
+          never z =
+              let is : place - 1 ≡ k = omega arith in
+              let u : _≡_ {A = Bool} false true = sym q ∙ (rw is at t) in
+              let v : _≡_ {A = ℕ} 0 1 = cc in
+              omega arith
+      by on false p d q = rw (misses k p (test k) refl) (on found then place (rw p at e) t h)
+
 -- a test that holds only before place n
 abbrev pub before : ℕ → (ℕ → Bool) → ℕ → Bool
 before n test k = cond (ltb k n) (test k) false
@@ -92,16 +136,16 @@ module _ (n : ℕ) (test : ℕ → Bool) where
       by true g = simp g at e
       by false g = let z : _≡_ {A = Bool} false true = simp g at e in let q : _≡_ {A = ℕ} 0 1 = cc in absurd (omega arith)
 
-  lowest-same : (k found : ℕ) → k ≤ n → lowest (before n test) k found ≡ lowest test k found
+  lowest-low : (k found : ℕ) → k ≤ n → lowest (before n test) k found ≡ lowest test k found
   unfolding lowest
-  lowest-same zero found h = refl
-  lowest-same (suc k) found h = rw (before-same k (omega arith)) (lowest-same k (cond (test k) (suc k) found) (omega arith))
+  lowest-low zero found h = refl
+  lowest-low (suc k) found h = rw (before-same k (omega arith)) (lowest-low k (cond (test k) (suc k) found) (omega arith))
 
   -- places from n on do not count
   pub lowest-before : (m found : ℕ) → n ≤ m → lowest (before n test) m found ≡ lowest test n found
-  lowest-before zero found h = let z : n ≡ 0 = omega arith in rw (← z) (lowest-same n found (omega arith))
+  lowest-before zero found h = let z : n ≡ 0 = omega arith in rw (← z) (lowest-low n found (omega arith))
   lowest-before (suc m) found h = by (lowest-before m found) (ltb m n) refl
     where
       by : (n ≤ m → lowest (before n test) m found ≡ lowest test n found) → (b : Bool) → ltb m n ≡ b → lowest (before n test) (suc m) found ≡ lowest test n found
-      by on true e = let g = ltb-true m n e in let z : n ≡ suc m = omega arith in rw (← z) (lowest-same n found (omega arith))
+      by on true e = let g = ltb-true m n e in let z : n ≡ suc m = omega arith in rw (← z) (lowest-low n found (omega arith))
       by on false e = let g = ltb-false m n e in lowest-miss (before n test) m found (before-none m g) ∙ on g

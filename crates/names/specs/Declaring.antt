@@ -68,6 +68,7 @@ empty-indexed s =
           record {
             heads = λ chain g. rw (empty-none, empty-cell (chain + 256)) (sym (last-none (chainAt s emptyTable) chain));
             links = λ k g. absurd (omega (arith, empty-none, g));
+            keys = λ k g. absurd (omega (arith, empty-none, g));
           };
       counts =
           record {

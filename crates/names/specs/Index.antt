@@ -1,9 +1,9 @@
 -- The index of a table of names: what lets a name be found, and rows be counted, without going through all rows.
-use Prim.Native.Nat.{ℕ, _+_, _-_, _*_, _%_, _≤_, _<_, min}
+use Prim.Native.Nat.{ℕ, _+_, _-_, _*_, _/_, _%_, _≤_, _<_, min}
 use mathlib.Core.Path.{_≡_}
 use mathlib.Core.List.{List, [], _∷_}
 use mathlib.Core.Bool.{cond}
-use lib.Dec.{eqb}
+use lib.Dec.{eqb, ltb}
 use lib.ListN.{length, getD, set, replicate}
 use lib.Seq.{slice, sets}
 use Rattle.refusals.specs.declared.Row.{Row}
@@ -11,19 +11,46 @@ use Rattle.refusals.specs.Names.{count, isSort, isPort, isPortOf}
 use Rattle.names.specs.Tables.{rowAt, rowsIn, hasRoom}
 use Rattle.names.specs.Chains.{lastOf}
 
--- one of 256 chains, by a scope and what tells names apart: the length, the first letter and the last two
-abbrev pub mixed : ℕ → ℕ → ℕ → ℕ → ℕ → ℕ
-mixed scope size first before last = (scope * 37 + size % 256 * 17 + first * 3 + before * 11 + last) % 256
+-- the numbers of a text are letters
+pub record Letters (s : List ℕ) : Type 0 where
+  pub bytes : (i : ℕ) → getD s i 0 < 256
+
+-- four letters from a place on, as one number
+abbrev pub quad : List ℕ → ℕ → ℕ
+quad s i = getD s i 0 + getD s (i + 1) 0 * 256 + getD s (i + 2) 0 * 65536 + getD s (i + 3) 0 * 16777216
+
+-- eight letters, four from each of two places on, as one number
+abbrev pub pair : List ℕ → ℕ → ℕ → ℕ
+pair s i j = quad s i + quad s j * 4294967296
+
+-- what tells names apart: all letters of a name that has at most eight, in longer ones those at its ends and in its middle
+unfoldable pub keyOf : List ℕ → ℕ
+keyOf word =
+    cond (ltb (length word) 4)
+    (getD word 0 0 + getD word (length word / 2) 0 * 256 + getD word (length word - 1) 0 * 65536)
+    (cond (ltb 8 (length word))
+    (pair word 0 (length word - 4) / 2 + pair word ((length word - 8) / 2) ((length word - 8) / 2 + 4) / 2)
+    (pair word 0 (length word - 4)))
+
+-- one of 256 chains, by a scope and a key
+abbrev pub mixed : ℕ → ℕ → ℕ
+mixed scope key = (key / 4294967296 * 3 + key % 4294967296 + scope * 101) * 260644314 / 268435456 % 256
 
 -- the chain of a name in a scope
 unfoldable pub chainOf : ℕ → List ℕ → ℕ
-chainOf scope word = mixed (scope % 256) (length word) (getD word 0 0) (getD word (length word - 2) 0) (getD word (length word - 1) 0)
+chainOf scope word = mixed (scope % 256) (keyOf word)
 
--- the chain of a row
+-- the key and the chain of a row
+abbrev pub keyBy : List ℕ → Row → ℕ
+keyBy s row = keyOf (slice (row .start) (row .end) s)
+
 abbrev pub chainBy : List ℕ → Row → ℕ
 chainBy s row = chainOf (row .scope) (slice (row .start) (row .end) s)
 
--- the chain of the row at a place
+-- the name and the chain of the row at a place
+abbrev pub wordAt : List ℕ → List ℕ → ℕ → List ℕ
+wordAt s cells k = slice (rowAt cells k .start) (rowAt cells k .end) s
+
 abbrev pub chainAt : List ℕ → List ℕ → ℕ → ℕ
 chainAt s cells k = chainBy s (rowAt cells k)
 
@@ -39,10 +66,15 @@ headIn cells chain = getD cells (chain + 256) 0
 abbrev pub linkAt : List ℕ → ℕ → ℕ
 linkAt cells k = min (getD cells (k * 8 + 512 + 6) 0) k
 
--- the chains that stand in the array are right for its rows and this text
+-- the key that is kept of the row at a place
+abbrev pub keyAt : List ℕ → ℕ → ℕ
+keyAt cells k = getD cells (k * 8 + 512 + 7) 0
+
+-- the chains and the keys that stand in the array are right for its rows and this text
 pub record Linked (s cells : List ℕ) : Type 0 where
   pub heads : (chain : ℕ) → chain < 256 → headIn cells chain ≡ lastOf (chainAt s cells) chain (indexed cells)
   pub links : (k : ℕ) → k < indexed cells → linkAt cells k ≡ lastOf (chainAt s cells) (chainAt s cells k) k
+  pub keys : (k : ℕ) → k < indexed cells → keyAt cells k ≡ keyBy s (rowAt cells k)
 
 -- how many rows are ports; how many are of a sort; and how many inputs or outputs are in a scope
 abbrev pub portsKept : List ℕ → ℕ
@@ -72,15 +104,15 @@ pub record Indexed (s cells : List ℕ) : Type 0 where
 
 -- ---- one row more
 
--- the numbers of a row and the link to the row before it in its chain
-abbrev pub numbers : Row → ℕ → List ℕ
-numbers row link = row .start ∷ row .end ∷ row .scope ∷ row .sort ∷ row .typ ∷ row .value ∷ link ∷ []
+-- the numbers of a row, the link to the row before it in its chain, and its key
+abbrev pub numbers : Row → ℕ → ℕ → List ℕ
+numbers row link key = row .start ∷ row .end ∷ row .scope ∷ row .sort ∷ row .typ ∷ row .value ∷ link ∷ key ∷ []
 
 -- the array with this row at a place, the last of its chain and of all
 unfoldable pub withRow : List ℕ → List ℕ → ℕ → Row → List ℕ
 withRow s cells n row =
     let chain = chainBy s row in
-    set (set (sets cells (n * 8 + 512) (numbers row (headIn cells chain))) (chain + 256) (n + 1)) 0 (n + 1)
+    set (set (sets cells (n * 8 + 512) (numbers row (headIn cells chain) (keyBy s row))) (chain + 256) (n + 1)) 0 (n + 1)
 
 -- one more than what stands at a place, which is at most n
 abbrev pub oneMore : List ℕ → ℕ → ℕ → ℕ

@@ -1,5 +1,5 @@
 -- Parts of a text, letter by letter.
-use Prim.Native.Nat.{ℕ, _+_, _≤_, _<_, min}
+use Prim.Native.Nat.{ℕ, _+_, _-_, _≤_, _<_, min}
 use mathlib.Core.Path.{_≡_, refl, sym, _∙_}
 use mathlib.Core.List.{List, [], _∷_}
 use mathlib.Core.Bool.{true, false}
@@ -21,6 +21,17 @@ module _ (s : List ℕ) (i e n : ℕ) (h : n ≡ length (slice i e s)) (some : n
 
   pub part-whole : slice i (i + n) s ≡ slice i e s
   part-whole = rw stop (sym (slice-clamp i e s))
+
+-- a part of n letters that ends where the text or the part ends
+pub part-back : (s : List ℕ) (i e stop n : ℕ) → stop ≡ min e (length s) → n ≤ stop → stop - n ≡ i → slice i e s ≡ slice i (i + n) s
+part-back s i e stop n h g l =
+    let z : i + n ≡ min e (length s) = omega arith in
+    rw z (slice-clamp i e s)
+
+pub same-own : (a : List ℕ) → same a a ≡ true
+unfolding same
+same-own [] = refl
+same-own (x ∷ xs) = simp (eq-eqb x x refl) (same-own xs)
 
 -- parts without letters are the same
 pub none-same : (a b : List ℕ) → length a ≡ 0 → length b ≡ 0 → true ≡ same a b

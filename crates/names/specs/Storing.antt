@@ -14,7 +14,7 @@ use Rattle.refusals.specs.declared.Row.{Row}
 use Rattle.names.specs.Tables.{rowAt, rowsFrom, rowsIn, roomIn, hasRoom}
 use Rattle.names.specs.TablesLaws.{rows-last}
 use Rattle.names.specs.Chains.{lastOf, last-le, last-same, last-own, last-else}
-use Rattle.names.specs.Index.{chainBy, chainAt, indexed, headIn, linkAt, Linked, numbers, withRow}
+use Rattle.names.specs.Index.{keyBy, chainBy, chainAt, indexed, headIn, linkAt, keyAt, Linked, numbers, withRow}
 use Rattle.names.specs.Hashing.{chain-small}
 
 -- ---- a run of stores
@@ -41,7 +41,7 @@ module _ (s cells : List ℕ) (n : ℕ) (row : Row) (h : hasRoom cells n ≡ tru
   own = chainBy s row
 
   abbrev new : List ℕ
-  new = numbers row (headIn cells own)
+  new = numbers row (headIn cells own) (keyBy s row)
 
   abbrev run : List ℕ
   run = sets cells (n * 8 + 512) new
@@ -72,7 +72,7 @@ module _ (s cells : List ℕ) (n : ℕ) (row : Row) (h : hasRoom cells n ≡ tru
   before place g z e = other place z e ∙ run-before cells new (n * 8 + 512) run-fits place g
 
   -- a number of the new row
-  number-at : (j : ℕ) → j < 7 → getD after (n * 8 + 512 + j) 0 ≡ getD new j 0
+  number-at : (j : ℕ) → j < 8 → getD after (n * 8 + 512 + j) 0 ≡ getD new j 0
   number-at j g = other (n * 8 + 512 + j) (λ z. omega (arith, z)) (λ z. omega (arith, z, own-small)) ∙ run-at cells new (n * 8 + 512) run-fits j g
 
   -- the number of rows, and the end of the row's chain
@@ -143,9 +143,20 @@ module _ (s cells : List ℕ) (n : ℕ) (row : Row) (h : hasRoom cells n ≡ tru
             let was : linkAt after k ≡ linkAt cells k = ap (λ (link : ℕ). min link k) (before (k * 8 + 512 + 6) (omega arith) (λ z. omega (arith, z)) (λ z. omega (arith, z, own-small))) in
             was ∙ ix .links k (omega (arith, m)) ∙ rw (chains-same k below) (sym (lasts-same (chainAt s cells k) k (omega arith)))
 
+    keys-then : (k : ℕ) → k < n + 1 → keyAt after k ≡ keyBy s (rowAt after k)
+    keys-then k g = by (eqb k n) refl
+      where
+        by : (b : Bool) → eqb k n ≡ b → keyAt after k ≡ keyBy s (rowAt after k)
+        by true e = rw (eqb-true k n e, row-same) (number-at 7 (lit< tt))
+        by false e =
+            let below : k < n = omega (arith, eqb-false k n e) in
+            let was : keyAt after k ≡ keyAt cells k = before (k * 8 + 512 + 7) (omega arith) (λ z. omega (arith, z)) (λ z. omega (arith, z, own-small)) in
+            was ∙ ix .keys k (omega (arith, m)) ∙ rw (row-before k below)
+
     pub linked-more : Linked s after
     linked-more =
         record {
           heads = λ chain g. heads-then chain g ∙ rw (more-rows, add-one n);
           links = λ k g. links-then k (rw more-rows at g);
+          keys = λ k g. keys-then k (rw more-rows at g);
         }

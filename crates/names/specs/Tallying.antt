@@ -143,6 +143,7 @@ module _ (cells : List ℕ) (n : ℕ) (row : Row) (h : 512 ≤ length cells) whe
       record {
         heads = λ chain g. rw (size-same, lasts-kept s chain (indexed cells), outside (chain + 256) (omega arith)) (l .heads chain g);
         links = λ k g. rw (outside (k * 8 + 512 + 6) (omega arith), row-kept k, lasts-kept s (chainAt s cells k) k) (l .links k (rw size-same at g));
+        keys = λ k g. rw (outside (k * 8 + 512 + 7) (omega arith), row-kept k) (l .keys k (rw size-same at g));
       }
 
 -- ---- the counts behind a declaration

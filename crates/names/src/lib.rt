@@ -3,15 +3,16 @@
 // Builds on the laws of parts of a text, and on what a row is in the rules.
 ghost use mathlib.Core.Path.{_≡_};
 ghost use mathlib.Core.List.{List};
-ghost use Prim.Native.Nat.{ℕ, _+_, _≤_, min};
+ghost use mathlib.Core.Bool.{true};
+ghost use Prim.Native.Nat.{ℕ, _+_, _≤_, _<_, min};
 ghost use lib.Dec.{eqb};
 ghost use lib.ListN.{length, getD};
 ghost use lib.Seq.{slice};
 ghost use Rattle.model.specs.Bytes.{same};
 ghost use Rattle.refusals.specs.Names.{unknown as unknownRow, isRow, find as findRow, noType, count as countOf, types};
 ghost use Rattle.names.specs.Tables.{rowAt, rowsIn, roomIn, scopeOf, isOf};
-ghost use Rattle.names.specs.Index.{indexed, linkAt, Indexed, Declared};
-ghost use Rattle.names.specs.Walking.{foundAt};
+ghost use Rattle.names.specs.Index.{keyOf, wordAt, chainOf, indexed, headIn, Indexed, Declared};
+ghost use Rattle.names.specs.Walking.{markedFirst};
 use refusals::Row;
 
 mod counting;
@@ -79,20 +80,28 @@ fn room(cells: &[usize]) -> usize
     (cells.len() - 512) / 8
 }
 
+// The row at a place where the array does not end within it.
+fn whole(cells: &[usize], k: usize) -> Row
+    requires { ⌜ k < roomIn (now cells) ⌝ }
+    ensures { λ r. ⌜ r ≡ rowAt (now (cells .entry)) k ⌝ }
+{
+    let first = k * 8 + 512;
+    Row {
+        start: cells[first],
+        end: cells[first + 1],
+        scope: cells[first + 2],
+        sort: cells[first + 3],
+        typ: cells[first + 4],
+        value: cells[first + 5],
+    }
+}
+
 // The row at a place of the table.
 pub fn row(cells: &[usize], k: usize) -> Row
     ensures { λ r. ⌜ r ≡ rowAt (now (cells .entry)) k ⌝ }
 {
     if k < room(cells) {
-        let first = k * 8 + 512;
-        return Row {
-            start: cells[first],
-            end: cells[first + 1],
-            scope: cells[first + 2],
-            sort: cells[first + 3],
-            typ: cells[first + 4],
-            value: cells[first + 5],
-        };
+        return whole(cells, k);
     }
     ragged(cells, k)
 }
@@ -201,46 +210,25 @@ fn searched(s: &[u8], cells: &[usize], n: usize, scope: Scope, start: usize, end
     unknown()
 }
 
-// The row before that at a place in its chain, one more than its place; 0 where there is none.
-fn link_at(cells: &[usize], k: usize) -> usize
-    ensures { λ r. ⌜ r ≡ linkAt (now (cells .entry)) k ⌝ }
+// The first row of its chain, among the first n, that is of this scope and has this key, one more than its place; 0 where there is none.
+fn chained(cells: &[usize], n: usize, scope: Scope, key: usize, head: usize) -> usize
+    requires { ⌜ (3904 ≤ length (now cells)) × (head ≤ 424) ⌝ }
+    ensures { λ r. ⌜ (r ≤ 424) × ((s : List ℕ) (word : List ℕ) → Indexed s (now (cells .entry)) → n ≤ indexed (now (cells .entry)) → key ≡ keyOf word → head ≡ headIn (now (cells .entry)) (chainOf (scopeOf scope) word) → r ≡ markedFirst s (scopeOf scope) word (now (cells .entry)) n) ⌝ }
 {
-    if k < room(cells) {
-        return least(cells[k * 8 + 512 + 6], k);
-    }
-    if cells.len() <= k {
-        return 0;
-    }
-    least(cell(cells, k * 8 + 512 + 6), k)
-}
-
-// Whether the row at a place is of this scope and has the name that stands from start up to end.
-fn has_name(s: &[u8], cells: &[usize], k: usize, scope: Scope, start: usize, end: usize) -> bool
-    ensures { λ r. ⌜ r ≡ isRow (now (s .entry)) (scopeOf scope) (slice start end (now (s .entry))) (rowAt (now (cells .entry)) k) ⌝ }
-{
-    if k < room(cells) {
-        let first = k * 8 + 512;
-        if is_in(cells[first + 2], scope) {
-            return same_parts(s, cells[first], cells[first + 1], start, end);
-        }
-        return false;
-    }
-    let this = ragged(cells, k);
-    is_row(s, this, scope, start, end)
-}
-
-// The first row of its chain, among the first n, that has the name, one more than its place; 0 where there is none.
-fn chained(s: &[u8], cells: &[usize], n: usize, scope: Scope, start: usize, end: usize) -> usize
-    ensures { λ r. ⌜ (Indexed (now (s .entry)) (now (cells .entry)) → n ≤ indexed (now (cells .entry)) → foundAt (now (cells .entry)) r ≡ findRow (now (s .entry)) (rowsIn (now (cells .entry)) n) (scopeOf scope) (slice start end (now (s .entry)))) ⌝ }
-{
-    let chain = hashing::chain_of(s, scope, start, end);
-    let mut link = cell(cells, chain + 256);
+    let mut link = head;
     let mut found = 0;
     while 0 < link {
-        let next = link_at(cells, link - 1);
+        let first = (link - 1) * 8 + 512;
+        let last = cells[first + 6];
+        let next = least(last, link - 1);
         if link <= n {
-            if has_name(s, cells, link - 1, scope, start, end) {
-                found = link;
+            if cells[first + 7] == key {
+                if is_in(cells[first + 2], scope) {
+                    if last == 0 {
+                        return link;
+                    }
+                    found = link;
+                }
             }
         }
         link = next;
@@ -248,23 +236,46 @@ fn chained(s: &[u8], cells: &[usize], n: usize, scope: Scope, start: usize, end:
     found
 }
 
-// The row that was found, by one more than its place; with 0 none was.
-fn found_at(cells: &[usize], found: usize) -> Row
-    ensures { λ r. ⌜ r ≡ foundAt (now (cells .entry)) found ⌝ }
+// Whether the row at a place has the name of n letters from start on, where their keys are equal.
+fn is_named(s: &[u8], cells: &[usize], k: usize, start: usize, n: usize) -> bool
+    requires { ⌜ (k < roomIn (now cells)) × (0 < n) × (start + n ≤ length (now s)) ⌝ }
+    ensures { λ r. ⌜ (r ≡ true → keyOf (wordAt (now (s .entry)) (now (cells .entry)) k) ≡ keyOf (slice start (start + n) (now (s .entry))) → same (wordAt (now (s .entry)) (now (cells .entry)) k) (slice start (start + n) (now (s .entry))) ≡ true) ⌝ }
 {
-    if found == 0 {
-        return unknown();
+    let stop = least(cells[k * 8 + 512 + 1], s.len());
+    if stop < n {
+        return false;
     }
-    row(cells, found - 1)
+    if stop - n != cells[k * 8 + 512] {
+        return false;
+    }
+    if n <= 8 {
+        return true;
+    }
+    same_letters(s, stop - n, start, n)
 }
 
 // What the name that stands from start up to end means in a scope, among the first n rows.
 pub fn find(s: &[u8], cells: &[usize], n: usize, scope: Scope, start: usize, end: usize) -> Row
     ensures { λ r. ⌜ (Indexed (now (s .entry)) (now (cells .entry)) → r ≡ findRow (now (s .entry)) (rowsIn (now (cells .entry)) n) (scopeOf scope) (slice start end (now (s .entry)))) ⌝ }
 {
-    if n <= cell(cells, 0) {
-        let found = chained(s, cells, n, scope, start, end);
-        return found_at(cells, found);
+    if 3904 <= cells.len() {
+        if n <= cells[0] {
+            let letters = size(s, start, end);
+            if 0 < letters {
+                let key = hashing::key_of(s, start, letters);
+                let chain = hashing::chain_of(scope, key);
+                let head = cells[chain + 256];
+                if head <= 424 {
+                    let found = chained(cells, n, scope, key, head);
+                    if found == 0 {
+                        return unknown();
+                    }
+                    if is_named(s, cells, found - 1, start, letters) {
+                        return whole(cells, found - 1);
+                    }
+                }
+            }
+        }
     }
     searched(s, cells, n, scope, start, end)
 }

@@ -8,11 +8,12 @@ use super::Sought;
 use refusals::Row;
 
 // The row behind the first n, as the last of its chain.
-pub fn enter(s: &[u8], cells: &mut [usize], n: usize, row: Row)
+pub(crate) fn enter(s: &[u8], cells: &mut [usize], n: usize, row: Row)
     requires { ⌜ n < roomIn (now cells) ⌝ }
     ensures { λ r. ⌜ now (cells .exit) ≡ withRow (now (s .entry)) (now (cells .entry)) n row ⌝ }
 {
-    let chain = super::hashing::chain_of(s, Scope::Numbered(row.scope), row.start, row.end);
+    let key = super::hashing::key_in(s, row.start, row.end);
+    let chain = super::hashing::chain_of(Scope::Numbered(row.scope), key);
     let last = cells[chain + 256];
     let first = n * 8 + 512;
     cells[first] = row.start;
@@ -22,6 +23,7 @@ pub fn enter(s: &[u8], cells: &mut [usize], n: usize, row: Row)
     cells[first + 4] = row.typ;
     cells[first + 5] = row.value;
     cells[first + 6] = last;
+    cells[first + 7] = key;
     cells[chain + 256] = n + 1;
     cells[0] = n + 1;
 }
@@ -56,7 +58,7 @@ fn first_by(known: usize, new: usize) -> usize
 }
 
 // The row counted, behind n others.
-pub fn tally(cells: &mut [usize], n: usize, row: Row)
+pub(crate) fn tally(cells: &mut [usize], n: usize, row: Row)
     requires { ⌜ n < roomIn (now cells) ⌝ }
     ensures { λ r. ⌜ now (cells .exit) ≡ tallied (now (cells .entry)) n row ⌝ }
 {
