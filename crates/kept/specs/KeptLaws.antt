@@ -1,13 +1,13 @@
 -- Laws of rows: the last of each kind, and one row more in an array.
-use Prim.Native.Nat.{ℕ, suc, _+_, _-_, _*_, _%_, _≤_, _<_}
+use Prim.Native.Nat.{ℕ, zero, suc, _+_, _-_, _*_, _%_, _≤_, _<_}
 use mathlib.Core.Path.{_≡_, refl, sym, ap, _∙_}
-use mathlib.Core.List.{List, [], _∷_, _++_}
+use mathlib.Core.List.{List, [], _∷_, _++_, append-nil}
 use mathlib.Core.Bool.{Bool, true, false}
 use native.Mathlib.Omega.{arith}
 use borrow.Author.Tests.{ltb-true, ltb-false}
 use lib.Dec.{ltb}
-use lib.ListN.{length, getD, set, take, drop, length-append, List·getD-eq-default}
-use lib.Seq.{sets, sets-eq, length-sets, length-take-le, take-at, drop-at, drop-append-le, drop-set-lt, drop-set-add, take-set-le, getD-set-same}
+use lib.ListN.{length, getD, set, take, drop, length-append, drop-of-length-le, List·getD-eq-default}
+use lib.Seq.{sets, sets-eq, length-sets, length-take-le, take-at, drop-at, drop-append-le, drop-set-lt, drop-set-add, take-set-le, getD-set-same, drop-cons}
 use Rattle.text.specs.declared.Name.{Name}
 use Rattle.text.specs.declared.State.{State}
 use Rattle.text.specs.declared.State.the-variants as Q
@@ -160,3 +160,22 @@ fetched {s} {memo} k {state} kept l e q p =
 -- an array without rows keeps the items of every text
 pub none-kept : (s memo : List ℕ) → getD memo 0 0 ≡ 0 → Kept s memo
 none-kept s memo z = record { each = λ k l. absurd (omega (arith, z, l)) }
+
+-- ---- a row as a whole
+
+-- n numbers of a list from a place on
+abbrev pub numbersFrom : ℕ → ℕ → List ℕ → List ℕ
+numbersFrom i zero l = []
+numbersFrom i (suc n) l = getD l i 0 ∷ numbersFrom (suc i) n l
+
+numbers-from : (i n : ℕ) (l : List ℕ) → i + n ≡ length l → drop i l ≡ numbersFrom i n l
+numbers-from i zero l e = drop-of-length-le l {i = i} (omega arith)
+numbers-from i (suc n) l e = drop-cons l i 0 (omega arith) ∙ ap (λ (m : List ℕ). getD l i 0 ∷ m) (numbers-from (suc i) n l (omega arith))
+
+-- numbers written over all of a row
+pub over : (new row : List ℕ) → length row ≡ length new → sets row 0 new ≡ new
+over new row e = sets-eq new row 0 (omega arith) ∙ rw (drop-of-length-le row {i = 0 + length new} (omega arith)) (append-nil new)
+
+-- a row whose numbers are each set to those of another
+pub all-set : (from row : List ℕ) → length from ≡ 16 → length row ≡ 16 → sets row 0 (numbersFrom 0 16 from) ≡ from
+all-set from row e h = ap (λ (l : List ℕ). sets row 0 l) (sym (numbers-from 0 16 from (sym e))) ∙ over from row (h ∙ sym e)

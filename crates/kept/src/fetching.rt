@@ -13,7 +13,7 @@ use text::ReadItem;
 use text::State;
 
 // Whether a row was read at a place, in a state.
-pub fn is_of(row: &[usize], state: State, at: usize) -> bool
+pub(crate) fn is_of(row: &[usize], state: State, at: usize) -> bool
     requires { ⌜ length (now row) ≡ 16 ⌝ }
     ensures { λ r. ⌜ (r ≡ true → (stateOf (getD (now (row .entry)) 1 0) ≡ state) × (getD (now (row .entry)) 2 0 ≡ at)) ⌝ }
 {
@@ -24,7 +24,7 @@ pub fn is_of(row: &[usize], state: State, at: usize) -> bool
     false
 }
 
-fn name(row: &[usize], at: usize) -> Name
+pub(crate) fn name(row: &[usize], at: usize) -> Name
     requires { ⌜ at + 2 ≤ length (now row) ⌝ }
     ensures { λ r. ⌜ r ≡ nameAt (now (row .entry)) at ⌝ }
 {
@@ -34,7 +34,7 @@ fn name(row: &[usize], at: usize) -> Name
     }
 }
 
-fn port(row: &[usize], at: usize) -> Port
+pub(crate) fn port(row: &[usize], at: usize) -> Port
     requires { ⌜ at + 5 ≤ length (now row) ⌝ }
     ensures { λ r. ⌜ r ≡ portAt (now (row .entry)) at ⌝ }
 {
@@ -47,7 +47,7 @@ fn port(row: &[usize], at: usize) -> Port
     }
 }
 
-fn literal(row: &[usize], at: usize) -> Literal
+pub(crate) fn literal(row: &[usize], at: usize) -> Literal
     requires { ⌜ at + 5 ≤ length (now row) ⌝ }
     ensures { λ r. ⌜ r ≡ literalAt (now (row .entry)) at ⌝ }
 {
@@ -164,7 +164,7 @@ fn item(row: &[usize]) -> Item
 }
 
 // The item of a row, and the state and the place behind it.
-pub fn read(row: &[usize]) -> ReadItem
+pub(crate) fn read(row: &[usize]) -> ReadItem
     requires { ⌜ length (now row) ≡ 16 ⌝ }
     ensures { λ r. ⌜ r ≡ readOf (now (row .entry)) ⌝ }
 {

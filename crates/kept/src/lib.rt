@@ -5,16 +5,29 @@ ghost use Prim.Native.Nat.{_-_, _/_, min};
 ghost use lib.ListN.{length, getD};
 ghost use mathlib.Core.Path.{_≡_};
 ghost use Rattle.text.specs.Items.{itemAt};
+ghost use Rattle.kept.specs.Rows.{stateOf, readOf};
 ghost use Rattle.kept.specs.Kept.{Kept};
 use text::ReadItem;
 use text::State;
 
 mod fetching;
 mod pass;
+mod rows;
 mod states;
 mod storing;
 
 pub use pass::syntax;
+pub use rows::first_name;
+pub use rows::first_port;
+pub use rows::first_value;
+pub use rows::last_name;
+pub use rows::second_name;
+pub use rows::second_port;
+pub use rows::second_value;
+pub use rows::section;
+pub use rows::third_name;
+pub use states::number_of;
+pub use states::state_of;
 
 // How many rows the array holds: row k stands from 16 k + 16 on.
 fn held(memo: &[usize]) -> usize
@@ -45,4 +58,30 @@ pub fn item<'a>(s: &'a [u8], memo: &'a [usize], k: usize, state: State, at: usiz
         }
     }
     items::item(s, state, at)
+}
+
+// The row of the item at a place, in a state by its number: row k where it is of this place and state, or else read anew.
+pub fn fetch<'a>(
+    s: &'a [u8],
+    memo: &'a [usize],
+    k: usize,
+    state: usize,
+    at: usize,
+    row: &mut [usize; 16],
+)
+    ensures { λ _. ⌜ (Kept (now (s .entry)) (now (memo .entry)) → readOf (now (row .exit)) ≡ itemAt (now (s .entry)) (stateOf state) at) ⌝ }
+{
+    let rows = held(memo);
+    if k < rows {
+        let first = k * 16 + 16;
+        let end = first + 16;
+        let from = &memo[first..end];
+        if from[2] == at {
+            if from[1] == state {
+                rows::copied(from, row);
+                return;
+            }
+        }
+    }
+    storing::anew(s, state, at, row);
 }

@@ -6,7 +6,8 @@ ghost use lib.Seq.{sets};
 ghost use mathlib.Core.List.{[], _∷_};
 ghost use mathlib.Core.Path.{_≡_};
 ghost use Rattle.text.specs.declared.Item.the-variants.{Constant, ModeBegin, Update};
-ghost use Rattle.kept.specs.Rows.{literalOf, itemOf, shortOf, longOf, numbers};
+ghost use Rattle.text.specs.Items.{itemAt};
+ghost use Rattle.kept.specs.Rows.{literalOf, itemOf, stateOf, readOf, shortOf, longOf, numbers};
 ghost use Rattle.kept.specs.Kept.{Keeps};
 use super::states;
 use text::Item;
@@ -344,4 +345,17 @@ pub fn keep(memo: &mut [usize], state: State, at: usize, read: ReadItem)
     let behind = states::number_of(ahead);
     write(memo, many * 16 + 16, before, at, behind, read.next, fields);
     memo[0] = many + 1;
+}
+
+// A row of what is read at a place, in a state by its number.
+pub(crate) fn anew(s: &[u8], state: usize, at: usize, row: &mut [usize; 16])
+    ensures { λ _. ⌜ readOf (now (row .exit)) ≡ itemAt (now (s .entry)) (stateOf state) at ⌝ }
+{
+    let before = states::state_of(state);
+    let read = items::item(s, before, at);
+    let found = read.item;
+    let fields = fields_of(found);
+    let ahead = read.state;
+    let behind = states::number_of(ahead);
+    write(row, 0, state, at, behind, read.next, fields);
 }
