@@ -7,7 +7,7 @@ use mathlib.Core.Option.{none}
 use native.Mathlib.Omega.{arith}
 use borrow.Author.Tests.{eqb-true, ltb-false, ne-eqb}
 use lib.Dec.{eqb}
-use lib.ListN.{length}
+use lib.ListN.{length, getD}
 use Rattle.text.specs.declared.Name.{Name}
 use Rattle.text.specs.declared.State.{State}
 use Rattle.text.specs.declared.State.the-variants as Q
@@ -25,6 +25,8 @@ use Rattle.refusals.specs.NamesLaws.{Sorted, find-first, find-new, rows-sorted}
 use Rattle.refusals.specs.Declarations.{modesIn, declares, rowsAfter}
 use Rattle.refusals.specs.Activities.{modeNamed}
 use Rattle.accepted.specs.Steps.{Comes, module-begins, module-section, constant, sensor, actuator, task-begins, task-section, input, output, task-ends, mode-begins, mode-section, activity, guard-alone, guard, guard-arg, guard-last, invoke-alone, invoke, arg, arg-last, update, switch, mode-ends, module-ends, text-ends, item-comes}
+use Rattle.kept.specs.Rows.{stateOf, fieldsIn, itemOf}
+use Rattle.kept.specs.Kinds.{each-kind}
 use Rattle.targets.specs.Ahead.{begins, modeAhead, isTarget}
 
 -- ---- a turn of the search: r is what was read
@@ -45,6 +47,17 @@ module _ (s word : List ℕ) (state : State) (at : ℕ) (r : ReadItem) (h : at �
   pub ahead-stop : goes (r .item) ≡ false → begins s word (r .item) ≡ false → modeAhead s word (itemsFrom s state at) ≡ false
   unfolding modeAhead
   ahead-stop g e = rw (from-stop s state at h (rw p at g)) (simp (rw p at e))
+
+-- the search begins in the state that a number tells
+pub entered : (s word : List ℕ) (n : ℕ) {state : State} (at : ℕ) {r : Bool} → stateOf n ≡ state → modeAhead s word (itemsFrom s (stateOf n) at) ≡ r → modeAhead s word (itemsFrom s state at) ≡ r
+entered s word n at q e = ap (λ (p : State). modeAhead s word (itemsFrom s p at)) (sym q) ∙ e
+
+-- a row of another kind than 9 begins no mode
+pub kind-quiet : (s word row : List ℕ) → (getD row 0 0 ≡ 9 → ⊥) → begins s word (itemOf (fieldsIn row)) ≡ false
+kind-quiet s word row =
+    each-kind row (λ (n : ℕ) (item : Item). (n ≡ 9 → ⊥) → begins s word item ≡ false)
+    (λ h. refl) (λ h. refl) (λ h. refl) (λ h. refl) (λ h. refl) (λ h. refl) (λ h. refl) (λ h. refl) (λ h. refl) (λ h. absurd (h refl)) (λ h. refl) (λ h. refl) (λ h. refl) (λ h. refl) (λ h. refl) (λ h. refl) (λ h. refl) (λ h. refl) (λ h. refl) (λ h. refl)
+    (λ n l h. refl)
 
 pub ahead-end : (s word : List ℕ) (state : State) (at : ℕ) → length s < at → modeAhead s word (itemsFrom s state at) ≡ false
 unfolding modeAhead itemsIn

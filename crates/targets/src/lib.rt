@@ -4,6 +4,7 @@
 ghost use mathlib.Core.Path.{_≡_};
 ghost use Rattle.text.specs.Items.{goes as goesOn, itemsFrom};
 ghost use Rattle.refusals.specs.Names.{letters};
+ghost use Rattle.kept.specs.Rows.{fieldsIn, itemOf};
 ghost use Rattle.kept.specs.Kept.{Kept};
 ghost use Rattle.names.specs.Index.{Indexed};
 ghost use Rattle.names.specs.Tables.{rowsIn};
@@ -13,18 +14,12 @@ use text::Item;
 use text::Name;
 use text::State;
 
-// Whether an item begins a mode of the name sought.
-fn begins(s: &[u8], item: Item, sought: Name) -> bool
-    ensures { λ r. ⌜ r ≡ beginsMode (now (s .entry)) (letters (now (s .entry)) sought) item ⌝ }
+// Whether the item of a row begins a mode of the name sought.
+fn begins(s: &[u8], row: &[usize; 16], sought: Name) -> bool
+    ensures { λ r. ⌜ r ≡ beginsMode (now (s .entry)) (letters (now (s .entry)) sought) (itemOf (fieldsIn (now (row .entry)))) ⌝ }
 {
-    if let Item::ModeBegin {
-        start: _,
-        at: _,
-        name,
-        digits: _,
-        milli: _,
-    } = item {
-        return names::same_parts(s, name.start, name.end, sought.start, sought.end);
+    if row[0] == 9 {
+        return names::same_parts(s, row[5], row[6], sought.start, sought.end);
     }
     false
 }
@@ -53,27 +48,25 @@ fn ahead<'a>(
 ) -> bool
     ensures { λ r. ⌜ (Kept (now (s .entry)) (now (memo .entry)) → r ≡ modeAhead (now (s .entry)) (letters (now (s .entry)) sought) (itemsFrom (now (s .entry)) state at)) ⌝ }
 {
+    let mut row = [0usize; 16];
     let mut number = k;
-    let mut behind = state;
+    let mut behind = kept::number_of(state);
     let mut place = at;
     while place <= s.len() {
-        let read = kept::item(s, memo, number, behind, place);
-        let found = read.item;
-        if begins(s, found, sought) {
+        kept::fetch(s, memo, number, behind, place, &mut row);
+        if begins(s, &row, sought) {
             return true;
         }
-        if goes(found) {
-            let next = read.next;
-            if next <= place {
-                return false;
-            }
-            let after = read.state;
-            number = std::num::wrapping_add_usize(number, 1);
-            behind = after;
-            place = next;
-        } else {
+        if 18 < row[0] {
             return false;
         }
+        let next = row[4];
+        if next <= place {
+            return false;
+        }
+        number = std::num::wrapping_add_usize(number, 1);
+        behind = row[3];
+        place = next;
     }
     false
 }
