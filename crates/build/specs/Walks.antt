@@ -17,7 +17,9 @@ use Rattle.text.specs.PartsLaws.{unsaid}
 use Rattle.refusals.specs.declared.Row.{Row}
 use Rattle.refusals.specs.Declarations.{declares}
 use Rattle.names.specs.Tables.{rowAt, rowsFrom, rowsIn}
+use Rattle.timing.specs.SlotLaws.{Each}
 use Rattle.ports.specs.Boards.{Board, placedBy}
+use Rattle.ports.specs.Parts.{Still}
 use Rattle.sheets.specs.Sheets.{Sheet, planned}
 
 -- how many names an item declares
@@ -112,6 +114,12 @@ module _ {B : Type 0} (on : ℕ → Item → B → B) (s : List ℕ) (state : St
 
   pub run-over : {after whole : B} → goes (r .item) ≡ false → after ≡ on n (r .item) b → runs on n (itemsFrom s state at) b ≡ whole → after ≡ whole
   run-over g e w = e ∙ sym (run-out g) ∙ w
+
+-- items that put nothing into the arrays of declarations leave them as they are
+pub still-run : (s cells : List ℕ) (n : ℕ) (items : List Item) (b : Board) → Each Still items → b ≡ boardRun s cells n items b
+unfolding runs
+still-run s cells n [] b u = refl
+still-run s cells n (item ∷ items) b u = u .0 .same s (rowsIn cells n) b ∙ still-run s cells (n + declaring item) items (placedBy s (rowsIn cells n) item b) (u .1)
 
 -- ---- whether a walk is over
 

@@ -49,6 +49,9 @@ pub fn declared<'a>(
     let mut k = 0;
     let mut ports = nothing();
     while at <= s.len() {
+        if ports::late(state) {
+            return ports;
+        }
         let read = kept::item(s, memo, k, state, at);
         let found = read.item;
         ports = ports::placed(

@@ -9,7 +9,8 @@ use Rattle.names.specs.Tables.{rowsIn}
 use Rattle.names.specs.Index.{Indexed}
 use Rattle.ports.specs.Boards.{boardOf, placedBy}
 use Rattle.ports.specs.Placing.{noPorts}
-use Rattle.build.specs.Walks.{boardRun, on-ahead, over-out, run-again, run-over, declaring-few}
+use Rattle.ports.specs.Late.{late-items}
+use Rattle.build.specs.Walks.{boardRun, on-ahead, over-out, run-again, run-over, still-run, declaring-few}
 use borrow.Author.Needs.{needs}
 use native.Mathlib.Omega.{arith}
 use Rattle.build.proofs.declarations.declared.Statement.{statement}
@@ -30,6 +31,44 @@ nothing-requires c κs = search needs
 loop-holds : tie.Need-loop-holds Inv-loop μ-loop
 loop-holds c = (omega arith, omega arith, (refl, refl, refl, refl, refl, refl, refl, refl, refl), λ kept ix. (omega arith, rw (c .nothing .ensures) refl))
 
+late-requires : tie.Need-late-requires Inv-loop μ-loop
+late-requires c κs = search needs
+
+same-length : tie.Need-same-length Inv-loop μ-loop
+same-length c = c .before .before .before .loop .inv .2 .0
+
+same-length-2 : tie.Need-same-length-2 Inv-loop μ-loop
+same-length-2 c = c .before .before .before .loop .inv .2 .1
+
+same-length-3 : tie.Need-same-length-3 Inv-loop μ-loop
+same-length-3 c = c .before .before .before .loop .inv .2 .2
+
+same-length-4 : tie.Need-same-length-4 Inv-loop μ-loop
+same-length-4 c = c .before .before .before .loop .inv .2 .3
+
+same-length-5 : tie.Need-same-length-5 Inv-loop μ-loop
+same-length-5 c = c .before .before .before .loop .inv .2 .4
+
+same-length-6 : tie.Need-same-length-6 Inv-loop μ-loop
+same-length-6 c = c .before .before .before .loop .inv .2 .5
+
+same-length-7 : tie.Need-same-length-7 Inv-loop μ-loop
+same-length-7 c = c .before .before .before .loop .inv .2 .6
+
+same-length-8 : tie.Need-same-length-8 Inv-loop μ-loop
+same-length-8 c = c .before .before .before .loop .inv .2 .7
+
+same-length-9 : tie.Need-same-length-9 Inv-loop μ-loop
+same-length-9 c = c .before .before .before .loop .inv .2 .8
+
+returns : tie.Need-returns Inv-loop μ-loop
+returns c =
+    let args = c .before .before .before .before .before .before .before .before .before .before .before .before .before .before .before .before .before .args in
+    let loop = c .before .before .before .loop in
+    let told = sym (c .before .late .ensures) ∙ c .if1 .taken in
+    λ kept ix.
+    still-run (now (args .s)) (now (args .cells)) (loop .n) (itemsFrom (now (args .s)) (loop .state) (loop .at)) _ (late-items (now (args .s)) (loop .state) (loop .at) told) ∙ loop .inv .3 kept ix .1
+
 item-requires : tie.Need-item-requires Inv-loop μ-loop
 item-requires c κs = search needs
 
@@ -39,40 +78,40 @@ placed-requires c κs = search needs
 over-requires : tie.Need-over-requires Inv-loop μ-loop
 over-requires c κs = search needs
 
-same-length : tie.Need-same-length Inv-loop μ-loop
-same-length c = c .before .before .before .before .before .before .before .before .before .before .before .before .before .before .before .before .before .before .before .before .placed .kept .1 .1 .1 .1 .1 .0 ∙ c .before .before .before .before .before .before .before .before .before .before .before .before .before .before .before .before .before .before .before .before .before .before .before .before .before .before .before .before .before .before .before .before .loop .inv .2 .0
+same-length-10 : tie.Need-same-length-10 Inv-loop μ-loop
+same-length-10 c = c .before .before .before .before .before .before .before .before .before .before .before .before .before .before .before .before .before .before .before .before .placed .kept .1 .1 .1 .1 .1 .0 ∙ c .before .before .before .before .before .before .before .before .before .before .before .before .before .before .before .before .before .before .before .before .before .before .before .before .before .before .before .before .before .before .before .before .before .before .loop .inv .2 .0
 
-same-length-2 : tie.Need-same-length-2 Inv-loop μ-loop
-same-length-2 c = c .before .before .before .before .before .before .before .before .before .before .before .before .before .before .before .before .before .before .before .before .placed .kept .1 .1 .1 .1 .1 .1 .0 ∙ c .before .before .before .before .before .before .before .before .before .before .before .before .before .before .before .before .before .before .before .before .before .before .before .before .before .before .before .before .before .before .before .before .loop .inv .2 .1
+same-length-11 : tie.Need-same-length-11 Inv-loop μ-loop
+same-length-11 c = c .before .before .before .before .before .before .before .before .before .before .before .before .before .before .before .before .before .before .before .before .placed .kept .1 .1 .1 .1 .1 .1 .0 ∙ c .before .before .before .before .before .before .before .before .before .before .before .before .before .before .before .before .before .before .before .before .before .before .before .before .before .before .before .before .before .before .before .before .before .before .loop .inv .2 .1
 
-same-length-3 : tie.Need-same-length-3 Inv-loop μ-loop
-same-length-3 c = c .before .before .before .before .before .before .before .before .before .before .before .before .before .before .before .before .before .before .before .before .placed .kept .1 .1 .1 .1 .1 .1 .1 .0 ∙ c .before .before .before .before .before .before .before .before .before .before .before .before .before .before .before .before .before .before .before .before .before .before .before .before .before .before .before .before .before .before .before .before .loop .inv .2 .2
+same-length-12 : tie.Need-same-length-12 Inv-loop μ-loop
+same-length-12 c = c .before .before .before .before .before .before .before .before .before .before .before .before .before .before .before .before .before .before .before .before .placed .kept .1 .1 .1 .1 .1 .1 .1 .0 ∙ c .before .before .before .before .before .before .before .before .before .before .before .before .before .before .before .before .before .before .before .before .before .before .before .before .before .before .before .before .before .before .before .before .before .before .loop .inv .2 .2
 
-same-length-4 : tie.Need-same-length-4 Inv-loop μ-loop
-same-length-4 c = c .before .before .before .before .before .before .before .before .before .before .before .before .before .before .before .before .before .before .before .before .placed .kept .1 .1 .1 .1 .1 .1 .1 .1 .0 ∙ c .before .before .before .before .before .before .before .before .before .before .before .before .before .before .before .before .before .before .before .before .before .before .before .before .before .before .before .before .before .before .before .before .loop .inv .2 .3
+same-length-13 : tie.Need-same-length-13 Inv-loop μ-loop
+same-length-13 c = c .before .before .before .before .before .before .before .before .before .before .before .before .before .before .before .before .before .before .before .before .placed .kept .1 .1 .1 .1 .1 .1 .1 .1 .0 ∙ c .before .before .before .before .before .before .before .before .before .before .before .before .before .before .before .before .before .before .before .before .before .before .before .before .before .before .before .before .before .before .before .before .before .before .loop .inv .2 .3
 
-same-length-5 : tie.Need-same-length-5 Inv-loop μ-loop
-same-length-5 c = c .before .before .before .before .before .before .before .before .before .before .before .before .before .before .before .before .before .before .before .before .placed .kept .1 .1 .1 .1 .1 .1 .1 .1 .1 .0 ∙ c .before .before .before .before .before .before .before .before .before .before .before .before .before .before .before .before .before .before .before .before .before .before .before .before .before .before .before .before .before .before .before .before .loop .inv .2 .4
+same-length-14 : tie.Need-same-length-14 Inv-loop μ-loop
+same-length-14 c = c .before .before .before .before .before .before .before .before .before .before .before .before .before .before .before .before .before .before .before .before .placed .kept .1 .1 .1 .1 .1 .1 .1 .1 .1 .0 ∙ c .before .before .before .before .before .before .before .before .before .before .before .before .before .before .before .before .before .before .before .before .before .before .before .before .before .before .before .before .before .before .before .before .before .before .loop .inv .2 .4
 
-same-length-6 : tie.Need-same-length-6 Inv-loop μ-loop
-same-length-6 c = c .before .before .before .before .before .before .before .before .before .before .before .before .before .before .before .before .before .before .before .before .placed .kept .1 .1 .1 .1 .1 .1 .1 .1 .1 .1 .0 ∙ c .before .before .before .before .before .before .before .before .before .before .before .before .before .before .before .before .before .before .before .before .before .before .before .before .before .before .before .before .before .before .before .before .loop .inv .2 .5
+same-length-15 : tie.Need-same-length-15 Inv-loop μ-loop
+same-length-15 c = c .before .before .before .before .before .before .before .before .before .before .before .before .before .before .before .before .before .before .before .before .placed .kept .1 .1 .1 .1 .1 .1 .1 .1 .1 .1 .0 ∙ c .before .before .before .before .before .before .before .before .before .before .before .before .before .before .before .before .before .before .before .before .before .before .before .before .before .before .before .before .before .before .before .before .before .before .loop .inv .2 .5
 
-same-length-7 : tie.Need-same-length-7 Inv-loop μ-loop
-same-length-7 c = c .before .before .before .before .before .before .before .before .before .before .before .before .before .before .before .before .before .before .before .before .placed .kept .1 .1 .1 .1 .1 .1 .1 .1 .1 .1 .1 .0 ∙ c .before .before .before .before .before .before .before .before .before .before .before .before .before .before .before .before .before .before .before .before .before .before .before .before .before .before .before .before .before .before .before .before .loop .inv .2 .6
+same-length-16 : tie.Need-same-length-16 Inv-loop μ-loop
+same-length-16 c = c .before .before .before .before .before .before .before .before .before .before .before .before .before .before .before .before .before .before .before .before .placed .kept .1 .1 .1 .1 .1 .1 .1 .1 .1 .1 .1 .0 ∙ c .before .before .before .before .before .before .before .before .before .before .before .before .before .before .before .before .before .before .before .before .before .before .before .before .before .before .before .before .before .before .before .before .before .before .loop .inv .2 .6
 
-same-length-8 : tie.Need-same-length-8 Inv-loop μ-loop
-same-length-8 c = c .before .before .before .before .before .before .before .before .before .before .before .before .before .before .before .before .before .before .before .before .placed .kept .1 .1 .1 .1 .1 .1 .1 .1 .1 .1 .1 .1 .0 ∙ c .before .before .before .before .before .before .before .before .before .before .before .before .before .before .before .before .before .before .before .before .before .before .before .before .before .before .before .before .before .before .before .before .loop .inv .2 .7
+same-length-17 : tie.Need-same-length-17 Inv-loop μ-loop
+same-length-17 c = c .before .before .before .before .before .before .before .before .before .before .before .before .before .before .before .before .before .before .before .before .placed .kept .1 .1 .1 .1 .1 .1 .1 .1 .1 .1 .1 .1 .0 ∙ c .before .before .before .before .before .before .before .before .before .before .before .before .before .before .before .before .before .before .before .before .before .before .before .before .before .before .before .before .before .before .before .before .before .before .loop .inv .2 .7
 
-same-length-9 : tie.Need-same-length-9 Inv-loop μ-loop
-same-length-9 c = c .before .before .before .before .before .before .before .before .before .before .before .before .before .before .before .before .before .before .before .before .placed .kept .1 .1 .1 .1 .1 .1 .1 .1 .1 .1 .1 .1 .1 .0 ∙ c .before .before .before .before .before .before .before .before .before .before .before .before .before .before .before .before .before .before .before .before .before .before .before .before .before .before .before .before .before .before .before .before .loop .inv .2 .8
+same-length-18 : tie.Need-same-length-18 Inv-loop μ-loop
+same-length-18 c = c .before .before .before .before .before .before .before .before .before .before .before .before .before .before .before .before .before .before .before .before .placed .kept .1 .1 .1 .1 .1 .1 .1 .1 .1 .1 .1 .1 .1 .0 ∙ c .before .before .before .before .before .before .before .before .before .before .before .before .before .before .before .before .before .before .before .before .before .before .before .before .before .before .before .before .before .before .before .before .before .before .loop .inv .2 .8
 
-returns : tie.Need-returns Inv-loop μ-loop
-returns c =
-    let args = c .before .before .before .before .before .before .before .before .before .before .before .before .before .before .before .before .before .before .before .before .before .before .before .before .before .before .before .before .before .before .before .before .before .before .before .before .before .before .before .before .before .before .before .before .before .before .args in
-    let loop = c .before .before .before .before .before .before .before .before .before .before .before .before .before .before .before .before .before .before .before .before .before .before .before .before .before .before .before .before .before .before .before .before .loop in
+returns-2 : tie.Need-returns-2 Inv-loop μ-loop
+returns-2 c =
+    let args = c .before .before .before .before .before .before .before .before .before .before .before .before .before .before .before .before .before .before .before .before .before .before .before .before .before .before .before .before .before .before .before .before .before .before .before .before .before .before .before .before .before .before .before .before .before .before .before .before .args in
+    let loop = c .before .before .before .before .before .before .before .before .before .before .before .before .before .before .before .before .before .before .before .before .before .before .before .before .before .before .before .before .before .before .before .before .before .before .loop in
     let item = c .before .before .before .before .before .before .before .before .before .before .before .before .before .before .before .before .before .before .before .before .before .before .before .before .before .before .before .before .before .before .item in
     let over = c .before .over in
-    let told = sym (over .ensures) ∙ c .if1 .taken in
+    let told = sym (over .ensures) ∙ c .if2 .taken in
     λ kept ix.
     let run = loop .inv .3 kept ix in
     let is = item .ensures kept in
@@ -83,41 +122,41 @@ declaring-requires c κs = search needs
 
 add-n : tie.Need-add-n Inv-loop μ-loop
 add-n c =
-    let args = c .before .before .before .before .before .before .before .before .before .before .before .before .before .before .before .before .before .before .before .before .before .before .before .before .before .before .before .before .before .before .before .before .before .before .before .before .before .before .before .before .before .before .before .before .before .before .before .args in
-    let loop = c .before .before .before .before .before .before .before .before .before .before .before .before .before .before .before .before .before .before .before .before .before .before .before .before .before .before .before .before .before .before .before .before .before .loop in
+    let args = c .before .before .before .before .before .before .before .before .before .before .before .before .before .before .before .before .before .before .before .before .before .before .before .before .before .before .before .before .before .before .before .before .before .before .before .before .before .before .before .before .before .before .before .before .before .before .before .before .before .args in
+    let loop = c .before .before .before .before .before .before .before .before .before .before .before .before .before .before .before .before .before .before .before .before .before .before .before .before .before .before .before .before .before .before .before .before .before .before .before .loop in
     let item = c .before .before .before .before .before .before .before .before .before .before .before .before .before .before .before .before .before .before .before .before .before .before .before .before .before .before .before .before .before .before .before .item in
     let over = c .before .before .over in
-    let told = sym (over .ensures) ∙ c .before .if1 .left in
+    let told = sym (over .ensures) ∙ c .before .if2 .left in
     let ahead = on-ahead (item .result .item) (loop .at) (item .result .next) told in
-    omega (arith, loop .inv .0, c .before .before .before .before .before .before .before .before .before .before .before .before .before .before .before .before .before .before .before .before .before .before .before .before .before .before .before .before .before .before .before .before .loop-test .taken, declaring-few (item .result .item), c .declaring .ensures)
+    omega (arith, loop .inv .0, c .before .before .before .before .before .before .before .before .before .before .before .before .before .before .before .before .before .before .before .before .before .before .before .before .before .before .before .before .before .before .before .before .before .before .loop-test .taken, declaring-few (item .result .item), c .declaring .ensures)
 
 add-k : tie.Need-add-k Inv-loop μ-loop
 add-k c =
-    let args = c .before .before .before .before .before .before .before .before .before .before .before .before .before .before .before .before .before .before .before .before .before .before .before .before .before .before .before .before .before .before .before .before .before .before .before .before .before .before .before .before .before .before .before .before .before .before .before .args in
-    let loop = c .before .before .before .before .before .before .before .before .before .before .before .before .before .before .before .before .before .before .before .before .before .before .before .before .before .before .before .before .before .before .before .before .before .loop in
+    let args = c .before .before .before .before .before .before .before .before .before .before .before .before .before .before .before .before .before .before .before .before .before .before .before .before .before .before .before .before .before .before .before .before .before .before .before .before .before .before .before .before .before .before .before .before .before .before .before .before .before .args in
+    let loop = c .before .before .before .before .before .before .before .before .before .before .before .before .before .before .before .before .before .before .before .before .before .before .before .before .before .before .before .before .before .before .before .before .before .before .before .loop in
     let item = c .before .before .before .before .before .before .before .before .before .before .before .before .before .before .before .before .before .before .before .before .before .before .before .before .before .before .before .before .before .before .before .item in
     let over = c .before .before .over in
-    let told = sym (over .ensures) ∙ c .before .if1 .left in
+    let told = sym (over .ensures) ∙ c .before .if2 .left in
     let ahead = on-ahead (item .result .item) (loop .at) (item .result .next) told in
-    omega (arith, ahead .0, loop .inv .1, c .before .before .before .before .before .before .before .before .before .before .before .before .before .before .before .before .before .before .before .before .before .before .before .before .before .before .before .before .before .before .before .before .loop-test .taken, declaring-few (item .result .item), c .declaring .ensures)
+    omega (arith, ahead .0, loop .inv .1, c .before .before .before .before .before .before .before .before .before .before .before .before .before .before .before .before .before .before .before .before .before .before .before .before .before .before .before .before .before .before .before .before .before .before .loop-test .taken, declaring-few (item .result .item), c .declaring .ensures)
 
 loop-less : tie.Need-loop-less Inv-loop μ-loop
 loop-less c =
-    let args = c .before .before .before .before .before .before .before .before .before .before .before .before .before .before .before .before .before .before .before .before .before .before .before .before .before .before .before .before .before .before .before .before .before .before .before .before .before .before .before .before .before .before .before .before .before .before .before .args in
-    let loop = c .before .before .before .before .before .before .before .before .before .before .before .before .before .before .before .before .before .before .before .before .before .before .before .before .before .before .before .before .before .before .before .before .before .loop in
+    let args = c .before .before .before .before .before .before .before .before .before .before .before .before .before .before .before .before .before .before .before .before .before .before .before .before .before .before .before .before .before .before .before .before .before .before .before .before .before .before .before .before .before .before .before .before .before .before .before .before .before .args in
+    let loop = c .before .before .before .before .before .before .before .before .before .before .before .before .before .before .before .before .before .before .before .before .before .before .before .before .before .before .before .before .before .before .before .before .before .before .before .loop in
     let item = c .before .before .before .before .before .before .before .before .before .before .before .before .before .before .before .before .before .before .before .before .before .before .before .before .before .before .before .before .before .before .before .item in
     let over = c .before .before .over in
-    let told = sym (over .ensures) ∙ c .before .if1 .left in
+    let told = sym (over .ensures) ∙ c .before .if2 .left in
     let ahead = on-ahead (item .result .item) (loop .at) (item .result .next) told in
-    omega (arith, ahead .0, c .before .before .before .before .before .before .before .before .before .before .before .before .before .before .before .before .before .before .before .before .before .before .before .before .before .before .before .before .before .before .before .before .loop-test .taken)
+    omega (arith, ahead .0, c .before .before .before .before .before .before .before .before .before .before .before .before .before .before .before .before .before .before .before .before .before .before .before .before .before .before .before .before .before .before .before .before .before .before .loop-test .taken)
 
 loop-again : tie.Need-loop-again Inv-loop μ-loop
 loop-again c =
-    let args = c .before .before .before .before .before .before .before .before .before .before .before .before .before .before .before .before .before .before .before .before .before .before .before .before .before .before .before .before .before .before .before .before .before .before .before .before .before .before .before .before .before .before .before .before .before .before .before .args in
-    let loop = c .before .before .before .before .before .before .before .before .before .before .before .before .before .before .before .before .before .before .before .before .before .before .before .before .before .before .before .before .before .before .before .before .before .loop in
+    let args = c .before .before .before .before .before .before .before .before .before .before .before .before .before .before .before .before .before .before .before .before .before .before .before .before .before .before .before .before .before .before .before .before .before .before .before .before .before .before .before .before .before .before .before .before .before .before .before .before .before .args in
+    let loop = c .before .before .before .before .before .before .before .before .before .before .before .before .before .before .before .before .before .before .before .before .before .before .before .before .before .before .before .before .before .before .before .before .before .before .before .loop in
     let item = c .before .before .before .before .before .before .before .before .before .before .before .before .before .before .before .before .before .before .before .before .before .before .before .before .before .before .before .before .before .before .before .item in
     let over = c .before .before .over in
-    let told = sym (over .ensures) ∙ c .before .if1 .left in
+    let told = sym (over .ensures) ∙ c .before .if2 .left in
     let ahead = on-ahead (item .result .item) (loop .at) (item .result .next) told in
     let k = c .before .before .before .before .before .before .before .before .before .before .before .before .before .before .before .before .before .before .before .before .before .placed .kept .1 .1 .1 .1 .1 in (
       omega (arith, ahead .0, loop .inv .0, declaring-few (item .result .item), c .declaring .ensures),
@@ -131,35 +170,35 @@ loop-again c =
           ),
     )
 
-same-length-10 : tie.Need-same-length-10 Inv-loop μ-loop
-same-length-10 c = c .before .loop .inv .2 .0
+same-length-19 : tie.Need-same-length-19 Inv-loop μ-loop
+same-length-19 c = c .before .loop .inv .2 .0
 
-same-length-11 : tie.Need-same-length-11 Inv-loop μ-loop
-same-length-11 c = c .before .loop .inv .2 .1
+same-length-20 : tie.Need-same-length-20 Inv-loop μ-loop
+same-length-20 c = c .before .loop .inv .2 .1
 
-same-length-12 : tie.Need-same-length-12 Inv-loop μ-loop
-same-length-12 c = c .before .loop .inv .2 .2
+same-length-21 : tie.Need-same-length-21 Inv-loop μ-loop
+same-length-21 c = c .before .loop .inv .2 .2
 
-same-length-13 : tie.Need-same-length-13 Inv-loop μ-loop
-same-length-13 c = c .before .loop .inv .2 .3
+same-length-22 : tie.Need-same-length-22 Inv-loop μ-loop
+same-length-22 c = c .before .loop .inv .2 .3
 
-same-length-14 : tie.Need-same-length-14 Inv-loop μ-loop
-same-length-14 c = c .before .loop .inv .2 .4
+same-length-23 : tie.Need-same-length-23 Inv-loop μ-loop
+same-length-23 c = c .before .loop .inv .2 .4
 
-same-length-15 : tie.Need-same-length-15 Inv-loop μ-loop
-same-length-15 c = c .before .loop .inv .2 .5
+same-length-24 : tie.Need-same-length-24 Inv-loop μ-loop
+same-length-24 c = c .before .loop .inv .2 .5
 
-same-length-16 : tie.Need-same-length-16 Inv-loop μ-loop
-same-length-16 c = c .before .loop .inv .2 .6
+same-length-25 : tie.Need-same-length-25 Inv-loop μ-loop
+same-length-25 c = c .before .loop .inv .2 .6
 
-same-length-17 : tie.Need-same-length-17 Inv-loop μ-loop
-same-length-17 c = c .before .loop .inv .2 .7
+same-length-26 : tie.Need-same-length-26 Inv-loop μ-loop
+same-length-26 c = c .before .loop .inv .2 .7
 
-same-length-18 : tie.Need-same-length-18 Inv-loop μ-loop
-same-length-18 c = c .before .loop .inv .2 .8
+same-length-27 : tie.Need-same-length-27 Inv-loop μ-loop
+same-length-27 c = c .before .loop .inv .2 .8
 
-returns-2 : tie.Need-returns-2 Inv-loop μ-loop
-returns-2 c = λ kept ix. absurd (omega (arith, c .before .loop .inv .3 kept ix .0, c .loop-test .left))
+returns-3 : tie.Need-returns-3 Inv-loop μ-loop
+returns-3 c = λ kept ix. absurd (omega (arith, c .before .loop .inv .3 kept ix .0, c .loop-test .left))
 
 pub declared-spec : {M : Type 1} → statement M
 declared-spec =
@@ -169,9 +208,7 @@ declared-spec =
     μ-loop
     nothing-requires
     loop-holds
-    item-requires
-    placed-requires
-    over-requires
+    late-requires
     same-length
     same-length-2
     same-length-3
@@ -182,11 +219,9 @@ declared-spec =
     same-length-8
     same-length-9
     returns
-    declaring-requires
-    add-n
-    add-k
-    loop-less
-    loop-again
+    item-requires
+    placed-requires
+    over-requires
     same-length-10
     same-length-11
     same-length-12
@@ -196,4 +231,19 @@ declared-spec =
     same-length-16
     same-length-17
     same-length-18
-    returns-2)
+    returns-2
+    declaring-requires
+    add-n
+    add-k
+    loop-less
+    loop-again
+    same-length-19
+    same-length-20
+    same-length-21
+    same-length-22
+    same-length-23
+    same-length-24
+    same-length-25
+    same-length-26
+    same-length-27
+    returns-3)
