@@ -2,5 +2,6 @@
 // Promises: for every text and table of names, each array is what the items put there one after the other; of an accepted text, that is its module's table (specs/Accepting).
 // Builds on the items of a text, and on what each of them puts into the arrays (ports, plans).
 pub mod declarations;
+mod rows;
 pub mod schedules;
 mod turns;

@@ -6,13 +6,12 @@ ghost use Rattle.names.specs.Index.{Indexed};
 ghost use Rattle.sheets.specs.Sheets.{sheet};
 ghost use Rattle.sheets.specs.Kept.{noPlan};
 ghost use Rattle.build.specs.Walks.{sheetRun};
-use super::turns;
+use super::rows;
 use sheets::Acting;
 use sheets::Filled;
 use sheets::Opened;
 use sheets::Plan;
 use text::Name;
-use text::State;
 
 fn nothing() -> Plan
     ensures { λ r. ⌜ r ≡ noPlan ⌝ }
@@ -65,20 +64,20 @@ pub fn planned<'a>(
 ) -> Plan
     ensures { λ r. ⌜ (Kept (now (s .entry)) (now (memo .entry)) → Indexed (now (s .entry)) (now (cells .entry)) → sheet r (now («guard_rows» .exit)) (now («driver_rows» .exit)) (now (acts .exit)) (now («mode_names» .exit)) (now («mode_rows» .exit)) (now (modes .exit)) ≡ sheetRun (now (s .entry)) (now (cells .entry)) all 0 (itemsOf (now (s .entry))) (sheet noPlan (now («guard_rows» .entry)) (now («driver_rows» .entry)) (now (acts .entry)) (now («mode_names» .entry)) (now («mode_rows» .entry)) (now (modes .entry)))) ⌝ }
 {
-    let mut state = State::Begin;
+    let mut row = [0usize; 16];
+    let mut state = 0;
     let mut at = 0;
     let mut n = 0;
     let mut k = 0;
     let mut plan = nothing();
     while at <= s.len() {
-        let read = kept::item(s, memo, k, state, at);
-        let found = read.item;
+        kept::fetch(s, memo, k, state, at, &mut row);
         plan = plans::planned(
             s,
             cells,
             n,
             all,
-            found,
+            &row,
             plan,
             guard_rows,
             driver_rows,
@@ -87,15 +86,13 @@ pub fn planned<'a>(
             mode_rows,
             modes,
         );
-        let next = read.next;
-        if turns::over(found, at, next) {
+        if rows::over(&row, at) {
             return plan;
         }
-        n += turns::declaring(found);
+        n += rows::declaring(&row);
         k += 1;
-        let behind = read.state;
-        state = behind;
-        at = next;
+        state = row[3];
+        at = row[4];
     }
     plan
 }
