@@ -19,7 +19,7 @@ pub use words::same;
 pub use words::value;
 
 // The token that a byte alone is, or none.
-pub enum Alone {
+enum Alone {
     Sign(Token),
     Nothing,
 }
