@@ -11,7 +11,7 @@ use lib.ListN.{length, getD, replicate, length-append, length-replicate, getD-re
 use Rattle.refusals.specs.declared.Row.{Row}
 use Rattle.refusals.specs.Names.{count}
 use Rattle.names.specs.Tables.{rowsFrom, rowsIn, roomIn, hasRoom}
-use Rattle.names.specs.Chains.{last-none}
+use Rattle.names.specs.Chains.{last-none, next-none}
 use Rattle.names.specs.Index.{chainAt, indexed, Indexed, withRow, tallied, declaredIn, Declared, emptyTable, enteredIn, tableIn}
 use Rattle.names.specs.Storing as store
 use Rattle.names.specs.Tallying.{tally-long, linked-kept, long, size-then, rows-then, counts-then}
@@ -66,7 +66,8 @@ empty-indexed s =
     record {
       linked =
           record {
-            heads = λ chain g. rw (empty-none, empty-cell (chain + 256)) (sym (last-none (chainAt s emptyTable) chain));
+            heads = λ chain g. rw (empty-none, empty-cell (chain + 256)) (sym (next-none (chainAt s emptyTable) chain 0));
+            tails = λ chain g. rw (empty-none, empty-cell (chain + 384)) (sym (last-none (chainAt s emptyTable) chain));
             links = λ k g. absurd (omega (arith, empty-none, g));
             keys = λ k g. absurd (omega (arith, empty-none, g));
           };

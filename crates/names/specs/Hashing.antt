@@ -18,7 +18,7 @@ letter-at : (s : List ℕ) (start end i place : ℕ) → start + i ≡ place →
 letter-at s start end i place e h =
     getD-drop start (take end s) i 0 ∙ rw e (getD-take end s place 0 h)
 
-pub chain-small : (scope : ℕ) (word : List ℕ) → chainOf scope word < 256
+pub chain-small : (scope : ℕ) (word : List ℕ) → chainOf scope word < 128
 unfolding chainOf
 chain-small scope word = omega arith
 

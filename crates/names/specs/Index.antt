@@ -2,14 +2,14 @@
 use Prim.Native.Nat.{ℕ, _+_, _-_, _*_, _/_, _%_, _≤_, _<_, min}
 use mathlib.Core.Path.{_≡_}
 use mathlib.Core.List.{List, [], _∷_}
-use mathlib.Core.Bool.{cond}
+use mathlib.Core.Bool.{Bool, false, cond}
 use lib.Dec.{eqb, ltb}
 use lib.ListN.{length, getD, set, replicate}
 use lib.Seq.{slice, sets}
 use Rattle.refusals.specs.declared.Row.{Row}
 use Rattle.refusals.specs.Names.{count, isSort, isPort, isPortOf}
 use Rattle.names.specs.Tables.{rowAt, rowsIn, hasRoom}
-use Rattle.names.specs.Chains.{lastOf}
+use Rattle.names.specs.Chains.{lastOf, nextOf}
 
 -- the numbers of a text are letters
 pub record Letters (s : List ℕ) : Type 0 where
@@ -32,9 +32,9 @@ keyOf word =
     (pair word 0 (length word - 4) / 2 + pair word ((length word - 8) / 2) ((length word - 8) / 2 + 4) / 2)
     (pair word 0 (length word - 4)))
 
--- one of 256 chains, by a scope and a key
+-- one of 128 chains, by a scope and a key
 abbrev pub mixed : ℕ → ℕ → ℕ
-mixed scope key = (key / 4294967296 * 3 + key % 4294967296 + scope * 101) * 260644314 / 268435456 % 256
+mixed scope key = (key / 4294967296 * 3 + key % 4294967296 + scope * 101) * 260644314 / 268435456 % 128
 
 -- the chain of a name in a scope
 unfoldable pub chainOf : ℕ → List ℕ → ℕ
@@ -58,22 +58,30 @@ chainAt s cells k = chainBy s (rowAt cells k)
 abbrev pub indexed : List ℕ → ℕ
 indexed cells = getD cells 0 0
 
--- the last row of a chain, one more than its place; 0 where there is none
+-- the first and the last row of a chain, one more than their places; 0 where there is none
 abbrev pub headIn : List ℕ → ℕ → ℕ
 headIn cells chain = getD cells (chain + 256) 0
 
--- the row before that at a place in its chain, one more than its place; 0 where there is none
+abbrev pub tailIn : List ℕ → ℕ → ℕ
+tailIn cells chain = getD cells (chain + 384) 0
+
+-- the row behind that at a place in its chain, one more than its place; 0 where there is none
 abbrev pub linkAt : List ℕ → ℕ → ℕ
-linkAt cells k = min (getD cells (k * 8 + 512 + 6) 0) k
+linkAt cells k = getD cells (k * 8 + 512 + 6) 0
 
 -- the key that is kept of the row at a place
 abbrev pub keyAt : List ℕ → ℕ → ℕ
 keyAt cells k = getD cells (k * 8 + 512 + 7) 0
 
+-- whether the row at a place is of a scope and has a key, by what is kept of it
+abbrev pub markedBy : List ℕ → ℕ → ℕ → ℕ → Bool
+markedBy cells k scope key = cond (eqb (keyAt cells k) key) (eqb (rowAt cells k .scope) scope) false
+
 -- the chains and the keys that stand in the array are right for its rows and this text
 pub record Linked (s cells : List ℕ) : Type 0 where
-  pub heads : (chain : ℕ) → chain < 256 → headIn cells chain ≡ lastOf (chainAt s cells) chain (indexed cells)
-  pub links : (k : ℕ) → k < indexed cells → linkAt cells k ≡ lastOf (chainAt s cells) (chainAt s cells k) k
+  pub heads : (chain : ℕ) → chain < 128 → headIn cells chain ≡ nextOf (chainAt s cells) chain 0 (indexed cells)
+  pub tails : (chain : ℕ) → chain < 128 → tailIn cells chain ≡ lastOf (chainAt s cells) chain (indexed cells)
+  pub links : (k : ℕ) → k < indexed cells → linkAt cells k ≡ nextOf (chainAt s cells) (chainAt s cells k) (k + 1) (indexed cells - (k + 1))
   pub keys : (k : ℕ) → k < indexed cells → keyAt cells k ≡ keyBy s (rowAt cells k)
 
 -- how many rows are ports; how many are of a sort; and how many inputs or outputs are in a scope
@@ -104,15 +112,19 @@ pub record Indexed (s cells : List ℕ) : Type 0 where
 
 -- ---- one row more
 
--- the numbers of a row, the link to the row before it in its chain, and its key
-abbrev pub numbers : Row → ℕ → ℕ → List ℕ
-numbers row link key = row .start ∷ row .end ∷ row .scope ∷ row .sort ∷ row .typ ∷ row .value ∷ link ∷ key ∷ []
+-- the numbers of a row, no link to a row behind it in its chain, and its key
+abbrev pub numbers : Row → ℕ → List ℕ
+numbers row key = row .start ∷ row .end ∷ row .scope ∷ row .sort ∷ row .typ ∷ row .value ∷ 0 ∷ key ∷ []
+
+-- where the link to the row behind the last of a chain stands: in that row, or with no row in the chain at its head
+abbrev pub linkPlace : ℕ → ℕ → ℕ
+linkPlace chain last = cond (eqb last 0) (chain + 256) ((last - 1) * 8 + 512 + 6)
 
 -- the array with this row at a place, the last of its chain and of all
 unfoldable pub withRow : List ℕ → List ℕ → ℕ → Row → List ℕ
 withRow s cells n row =
     let chain = chainBy s row in
-    set (set (sets cells (n * 8 + 512) (numbers row (headIn cells chain) (keyBy s row))) (chain + 256) (n + 1)) 0 (n + 1)
+    set (set (set (sets cells (n * 8 + 512) (numbers row (keyBy s row))) (linkPlace chain (min (tailIn cells chain) n)) (n + 1)) (chain + 384) (n + 1)) 0 (n + 1)
 
 -- one more than what stands at a place, which is at most n
 abbrev pub oneMore : List ℕ → ℕ → ℕ → ℕ

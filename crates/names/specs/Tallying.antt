@@ -13,7 +13,7 @@ use Rattle.refusals.specs.Names.{count, isSort, isPort, isPortOf}
 use Rattle.refusals.specs.NamesLaws.{count-append}
 use Rattle.names.specs.Tables.{rowAt, rowsFrom, rowsIn, hasRoom}
 use Rattle.names.specs.TablesLaws.{length-rows}
-use Rattle.names.specs.Chains.{lastOf, last-same}
+use Rattle.names.specs.Chains.{lastOf, nextOf, last-same, next-same}
 use Rattle.names.specs.Index.{chainAt, indexed, Linked, portsKept, sortsKept, scopesKept, firstKept, Counts, withRow, oneMore, kindPlace, sortPlace, scopePlace, firstPlace, firstBy, tallied}
 use Rattle.names.specs.Storing as store
 
@@ -138,11 +138,15 @@ module _ (cells : List ℕ) (n : ℕ) (row : Row) (h : 512 ≤ length cells) whe
   lasts-kept : (s : List ℕ) (chain k : ℕ) → lastOf (chainAt s after) chain k ≡ lastOf (chainAt s cells) chain k
   lasts-kept s chain k = last-same (chainAt s after) (chainAt s cells) chain k (λ j g. rw (row-kept j))
 
+  nexts-kept : (s : List ℕ) (chain k d : ℕ) → nextOf (chainAt s after) chain k d ≡ nextOf (chainAt s cells) chain k d
+  nexts-kept s chain k d = next-same (chainAt s after) (chainAt s cells) chain k d (λ j g. rw (row-kept j))
+
   pub linked-kept : (s : List ℕ) → Linked s cells → Linked s after
   linked-kept s l =
       record {
-        heads = λ chain g. rw (size-same, lasts-kept s chain (indexed cells), outside (chain + 256) (omega arith)) (l .heads chain g);
-        links = λ k g. rw (outside (k * 8 + 512 + 6) (omega arith), row-kept k, lasts-kept s (chainAt s cells k) k) (l .links k (rw size-same at g));
+        heads = λ chain g. rw (size-same, nexts-kept s chain 0 (indexed cells), outside (chain + 256) (omega arith)) (l .heads chain g);
+        tails = λ chain g. rw (size-same, lasts-kept s chain (indexed cells), outside (chain + 384) (omega arith)) (l .tails chain g);
+        links = λ k g. rw (size-same, outside (k * 8 + 512 + 6) (omega arith), row-kept k, nexts-kept s (chainAt s cells k) (k + 1) (indexed cells - (k + 1))) (l .links k (rw size-same at g));
         keys = λ k g. rw (outside (k * 8 + 512 + 7) (omega arith), row-kept k) (l .keys k (rw size-same at g));
       }
 
@@ -167,7 +171,7 @@ module _ (s cells : List ℕ) (n : ℕ) (row : Row) (h : hasRoom cells n ≡ tru
 
   -- the index beside its chains is not touched by the row
   was : (place : ℕ) → 0 < place → place < 186 → getD stored place 0 ≡ getD cells place 0
-  was place g l = store.before s cells n row h place (omega arith) (λ z. omega (arith, z)) (λ z. omega (arith, z))
+  was place g l = store.low s cells n row h place g (omega arith)
 
   module _ (test : Row → Bool) (place : ℕ) (low : 0 < place) (high : place < 186) (kept : getD cells place 0 ≡ count test (rowsIn cells n)) where
     bound : count test (rowsIn cells n) ≤ n

@@ -1,19 +1,19 @@
--- A name is found by going through the rows of its chain, from the last to the first.
-use Prim.Native.Nat.{ℕ, zero, suc, _-_, _≤_, _<_}
+-- A name is found by going through the rows of its chain, from the first on.
+use Prim.Native.Nat.{ℕ, zero, suc, _+_, _-_, _≤_, _<_}
 use native.Mathlib.Omega.{arith}
 use mathlib.Core.Path.{_≡_, refl, sym, ap, _∙_}
 use mathlib.Core.List.{List, [], _∷_, _++_}
 use mathlib.Core.Bool.{Bool, true, false, cond}
-use borrow.Author.Tests.{eqb-true, eq-eqb, ne-eqb}
-use lib.Dec.{eqb}
+use borrow.Author.Tests.{eqb-true, eqb-false, eq-eqb, ltb-true, ltb-false}
+use lib.Dec.{eqb, ltb}
 use Rattle.model.specs.Bytes.{same}
 use Rattle.text.specs.WordsLaws.{same→eq}
 use Rattle.refusals.specs.declared.Row.{Row}
 use Rattle.refusals.specs.Names.{unknown, isRow, find}
 use Rattle.names.specs.Tables.{rowAt, rowsFrom, rowsIn}
 use Rattle.names.specs.TablesLaws.{rows-last}
-use Rattle.names.specs.Chains.{lastOf, lowest, last-le, last-class, lowest-skip, lowest-hit, lowest-miss, lowest-none, lowest-same, lowest-holds, before, before-same, before-none, before-own, lowest-before}
-use Rattle.names.specs.Index.{keyOf, chainOf, keyBy, wordAt, chainAt, indexed, headIn, linkAt, keyAt, Indexed}
+use Rattle.names.specs.Chains.{nextOf, lowest, next-some, next-out, lowest-hit, lowest-miss, lowest-none, lowest-same, lowest-holds, lowest-empty, lowest-first}
+use Rattle.names.specs.Index.{keyOf, chainOf, keyBy, wordAt, chainAt, indexed, headIn, linkAt, keyAt, markedBy, Indexed}
 use Rattle.names.specs.Hashing.{chain-small, chain-same}
 
 -- the row that was found, by one more than its place; with 0 none was
@@ -122,60 +122,77 @@ module _ (s : List ℕ) (scope : ℕ) (word : List ℕ) where
         let is = lowest-same (hasName cells) (marked cells) (named-marked cells) n 0 0 found (sym e) named (λ q. refl) in
         found-some cells found z ∙ sym (find-lowest cells n ∙ rw is)
 
-  -- whether the row at a place before n is such a row
-  abbrev markedIn : ℕ → List ℕ → ℕ → Bool
-  markedIn n cells = before n (marked cells)
-
-  -- a walk through the chain of a name, among the first n rows: where it stands, one more than its place, and what was found so far
-  pub record Walking (n : ℕ) (cells : List ℕ) (link found : ℕ) : Type 0 where
+  -- a walk through the chain of a name: where it stands, one more than its place, with no such row before it
+  pub record Walking (cells : List ℕ) (link : ℕ) : Type 0 where
     pub below : link ≤ indexed cells
-    pub own : 0 < link → chainAt s cells (link - 1) ≡ chainOf scope word
-    pub left : markedFirst cells n ≡ lowest (markedIn n cells) link found
+    pub own : chainAt s cells (link - 1) ≡ chainOf scope word
+    pub none : (j : ℕ) → j < link - 1 → marked cells j ≡ false
 
-  module _ {n : ℕ} {cells : List ℕ} (ix : Indexed s cells) where
-    -- the walk that stands at the last row of the chain before a place
-    stands : (k found : ℕ) → k ≤ indexed cells → markedFirst cells n ≡ lowest (markedIn n cells) k found → Walking n cells (lastOf (chainAt s cells) (chainOf scope word) k) found
-    stands k found h e =
-        let class = chainAt s cells in
-        let chain = chainOf scope word in
-        record {
-          below = omega (arith, last-le class chain k);
-          own = last-class class chain k;
-          left = e ∙ lowest-skip class chain (markedIn n cells) (λ j g. own-chain cells j (before-own n (marked cells) j g)) k found;
-        }
+  -- a row of another chain is no such row
+  apart : (cells : List ℕ) (k : ℕ) → (chainAt s cells k ≡ chainOf scope word → ⊥) → (b : Bool) → marked cells k ≡ b → marked cells k ≡ false
+  apart cells k h true e = absurd (h (own-chain cells k e))
+  apart cells k h false e = e
 
-    pub walk-begins : n ≤ indexed cells → Walking n cells (headIn cells (chainOf scope word)) 0
-    walk-begins h = rw (ix .linked .heads (chainOf scope word) (chain-small scope word)) (stands (indexed cells) 0 (omega arith) (sym (lowest-before n (marked cells) (indexed cells) 0 h)))
+  module _ {cells : List ℕ} (ix : Indexed s cells) where
+    head-is : headIn cells (chainOf scope word) ≡ nextOf (chainAt s cells) (chainOf scope word) 0 (indexed cells)
+    head-is = ix .linked .heads (chainOf scope word) (chain-small scope word)
 
-    module _ {link found : ℕ} (w : Walking n cells link found) (h : 0 < link) where
-      next : (then : ℕ) → lowest (markedIn n cells) (suc (link - 1)) found ≡ lowest (markedIn n cells) (link - 1) then → Walking n cells (linkAt cells (link - 1)) then
-      next then e =
-          let z : link ≡ suc (link - 1) = omega arith in
-          let on = w .left ∙ ap (λ (k : ℕ). lowest (markedIn n cells) k found) z ∙ e in
-          rw (ix .linked .links (link - 1) (omega (arith, w .below)), w .own h) (stands (link - 1) then (omega (arith, w .below)) on)
+    -- with no row in the chain none is such a row
+    pub walk-none : (n : ℕ) → n ≤ indexed cells → headIn cells (chainOf scope word) ≡ 0 → 0 ≡ markedFirst cells n
+    walk-none n h e = sym (lowest-empty (marked cells) n 0 (λ j g. apart cells j (next-out (chainAt s cells) (chainOf scope word) 0 (indexed cells) (sym head-is ∙ e) j (omega arith) (omega arith)) (marked cells j) refl))
 
+    pub walk-begins : 0 < headIn cells (chainOf scope word) → Walking cells (headIn cells (chainOf scope word))
+    walk-begins h =
+        let w = next-some (chainAt s cells) (chainOf scope word) 0 (indexed cells) (rw head-is at h) in
+        rw head-is (record { below = omega (arith, w .within); own = w .own; none = λ j g. apart cells j (w .first j (omega arith) g) (marked cells j) refl })
+
+    module _ {link : ℕ} (w : Walking cells link) (h : 0 < link) where
       key-kept : keyAt cells (link - 1) ≡ keyBy s (rowAt cells (link - 1))
       key-kept = ix .linked .keys (link - 1) (omega (arith, w .below))
 
-      -- a row with the name's key that is of its scope; one that is of another; one that has another key; and one that is not among the first n
-      pub walk-hits : link ≤ n → keyAt cells (link - 1) ≡ keyOf word → eqb (rowAt cells (link - 1) .scope) scope ≡ true → Walking n cells (linkAt cells (link - 1)) link
-      walk-hits g e i =
-          let z : link ≡ suc (link - 1) = omega arith in
-          let is : marked cells (link - 1) ≡ true = rw (eq-eqb (keyBy s (rowAt cells (link - 1))) (keyOf word) (sym key-kept ∙ e)) i in
-          next link (lowest-hit (markedIn n cells) (link - 1) found (before-same n (marked cells) (link - 1) (omega arith) ∙ is) ∙ ap (lowest (markedIn n cells) (link - 1)) (sym z))
+      -- what is kept of the row tells whether it is such a row
+      pub marked-kept : (key : ℕ) → key ≡ keyOf word → markedBy cells (link - 1) scope key ≡ marked cells (link - 1)
+      marked-kept key e = rw (e, key-kept)
 
-      misses : link ≤ n → marked cells (link - 1) ≡ false → Walking n cells (linkAt cells (link - 1)) found
-      misses g e = next found (lowest-miss (markedIn n cells) (link - 1) found (before-same n (marked cells) (link - 1) (omega arith) ∙ e))
+      -- one among the first n
+      pub walk-hits : (n : ℕ) → link ≤ n → marked cells (link - 1) ≡ true → link ≡ markedFirst cells n
+      walk-hits n g e =
+          let z : suc (link - 1) ≡ link = omega arith in
+          sym (lowest-first (marked cells) (link - 1) n 0 (omega arith) e (w .none) ∙ z)
 
-      pub walk-apart : link ≤ n → keyAt cells (link - 1) ≡ keyOf word → eqb (rowAt cells (link - 1) .scope) scope ≡ false → Walking n cells (linkAt cells (link - 1)) found
-      walk-apart g e i = misses g (rw (eq-eqb (keyBy s (rowAt cells (link - 1))) (keyOf word) (sym key-kept ∙ e)) i)
+      link-is : linkAt cells (link - 1) ≡ nextOf (chainAt s cells) (chainOf scope word) link (indexed cells - link)
+      link-is =
+          let z : link - 1 + 1 ≡ link = omega arith in
+          ix .linked .links (link - 1) (omega (arith, w .below)) ∙ rw (z, w .own)
 
-      pub walk-misses : link ≤ n → (keyAt cells (link - 1) ≡ keyOf word → ⊥) → Walking n cells (linkAt cells (link - 1)) found
-      walk-misses g e = misses g (rw (ne-eqb (keyBy s (rowAt cells (link - 1))) (keyOf word) (λ q. e (key-kept ∙ q))))
+      to : link + (indexed cells - link) ≡ indexed cells
+      to = omega (arith, w .below)
 
-      pub walk-passes : n < link → Walking n cells (linkAt cells (link - 1)) found
-      walk-passes g = next found (lowest-miss (markedIn n cells) (link - 1) found (before-none n (marked cells) (link - 1) (omega arith)))
+      -- before the row that the walk goes on to
+      between : marked cells (link - 1) ≡ false → (last : ℕ) → ((j : ℕ) → link ≤ j → j < last → chainAt s cells j ≡ chainOf scope word → ⊥) → (j : ℕ) → j < last → marked cells j ≡ false
+      between e last f j g = by (ltb j link) refl (eqb j (link - 1)) refl
+        where
+          by : (b : Bool) → ltb j link ≡ b → (c : Bool) → eqb j (link - 1) ≡ c → marked cells j ≡ false
+          by false p c q = apart cells j (f j (ltb-false j link p) g) (marked cells j) refl
+          by true p true q = rw (eqb-true j (link - 1) q) e
+          by true p false q = w .none j (omega (arith, ltb-true j link p, eqb-false j (link - 1) q))
 
-  pub walk-ends : {n : ℕ} {cells : List ℕ} {link found : ℕ} → Walking n cells link found → link ≤ 0 → found ≡ markedFirst cells n
-  unfolding lowest
-  walk-ends {n} {cells} {link} {found} w h = let z : link ≡ 0 = omega arith in sym (w .left ∙ rw z)
+      pub walk-on : marked cells (link - 1) ≡ false → link < linkAt cells (link - 1) → Walking cells (linkAt cells (link - 1))
+      walk-on e g =
+          let on = next-some (chainAt s cells) (chainOf scope word) link (indexed cells - link) (omega (arith, link-is, g)) in
+          rw link-is (record { below = omega (arith, on .within, to); own = on .own; none = between e (nextOf (chainAt s cells) (chainOf scope word) link (indexed cells - link) - 1) (on .first) })
+
+      -- the last row of its chain
+      pub walk-ends : (n : ℕ) → n ≤ indexed cells → marked cells (link - 1) ≡ false → linkAt cells (link - 1) ≤ link → 0 ≡ markedFirst cells n
+      walk-ends n i e g = sym (lowest-empty (marked cells) n 0 (between e n (λ j l f. next-out (chainAt s cells) (chainOf scope word) link (indexed cells - link) over j l (omega (arith, to)))))
+        where
+          over : nextOf (chainAt s cells) (chainOf scope word) link (indexed cells - link) ≡ 0
+          over = by (ltb 0 (nextOf (chainAt s cells) (chainOf scope word) link (indexed cells - link))) refl
+            where
+              by : (b : Bool) → ltb 0 (nextOf (chainAt s cells) (chainOf scope word) link (indexed cells - link)) ≡ b → nextOf (chainAt s cells) (chainOf scope word) link (indexed cells - link) ≡ 0
+              by true p = absurd (omega (arith, link-is, next-some (chainAt s cells) (chainOf scope word) link (indexed cells - link) (ltb-true 0 (nextOf (chainAt s cells) (chainOf scope word) link (indexed cells - link)) p) .above))
+              by false p = omega (arith, ltb-false 0 (nextOf (chainAt s cells) (chainOf scope word) link (indexed cells - link)) p)
+
+      -- a row that is not among the first n
+      pub walk-passes : (n : ℕ) → n < link → 0 ≡ markedFirst cells n
+      walk-passes n g = sym (lowest-empty (marked cells) n 0 (λ j i. w .none j (omega arith)))

@@ -77,8 +77,8 @@ fn part_of(scope: Scope) -> usize
 
 // The chain in a scope of the names with a key.
 pub fn chain_of(scope: Scope, key: usize) -> usize
-    ensures { λ r. ⌜ (r ≡ mixed (scopeOf scope % 256) key) × (r < 256) ⌝ }
+    ensures { λ r. ⌜ (r ≡ mixed (scopeOf scope % 256) key) × (r < 128) ⌝ }
 {
     let part = part_of(scope);
-    (key / 4294967296 * 3 + key % 4294967296 + part * 101) * 260644314 / 268435456 % 256
+    (key / 4294967296 * 3 + key % 4294967296 + part * 101) * 260644314 / 268435456 % 128
 }

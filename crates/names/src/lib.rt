@@ -11,7 +11,7 @@ ghost use lib.Seq.{slice};
 ghost use Rattle.model.specs.Bytes.{same};
 ghost use Rattle.refusals.specs.Names.{unknown as unknownRow, isRow, find as findRow, noType, count as countOf, types};
 ghost use Rattle.names.specs.Tables.{rowAt, rowsIn, roomIn, scopeOf, isOf};
-ghost use Rattle.names.specs.Index.{keyOf, wordAt, chainOf, indexed, headIn, Indexed, Declared};
+ghost use Rattle.names.specs.Index.{keyOf, wordAt, chainOf, indexed, headIn, markedBy, Indexed, Declared};
 ghost use Rattle.names.specs.Walking.{markedFirst};
 use refusals::Row;
 
@@ -210,30 +210,35 @@ fn searched(s: &[u8], cells: &[usize], n: usize, scope: Scope, start: usize, end
     unknown()
 }
 
-// The first row of its chain, among the first n, that is of this scope and has this key, one more than its place; 0 where there is none.
+// Whether the row at a place is of this scope and has this key.
+fn is_marked(cells: &[usize], k: usize, scope: Scope, key: usize) -> bool
+    requires { ⌜ k < roomIn (now cells) ⌝ }
+    ensures { λ r. ⌜ r ≡ markedBy (now (cells .entry)) k (scopeOf scope) key ⌝ }
+{
+    let first = k * 8 + 512;
+    if cells[first + 7] == key {
+        return is_in(cells[first + 2], scope);
+    }
+    false
+}
+
+// The first row of its chain, from head on and among the first n, that is of this scope and has this key, one more than its place; 0 where there is none.
 fn chained(cells: &[usize], n: usize, scope: Scope, key: usize, head: usize) -> usize
-    requires { ⌜ (3904 ≤ length (now cells)) × (head ≤ 424) ⌝ }
+    requires { ⌜ (3904 ≤ length (now cells)) × (n ≤ 424) × (0 < head) ⌝ }
     ensures { λ r. ⌜ (r ≤ 424) × ((s : List ℕ) (word : List ℕ) → Indexed s (now (cells .entry)) → n ≤ indexed (now (cells .entry)) → key ≡ keyOf word → head ≡ headIn (now (cells .entry)) (chainOf (scopeOf scope) word) → r ≡ markedFirst s (scopeOf scope) word (now (cells .entry)) n) ⌝ }
 {
     let mut link = head;
-    let mut found = 0;
-    while 0 < link {
-        let first = (link - 1) * 8 + 512;
-        let last = cells[first + 6];
-        let next = least(last, link - 1);
-        if link <= n {
-            if cells[first + 7] == key {
-                if is_in(cells[first + 2], scope) {
-                    if last == 0 {
-                        return link;
-                    }
-                    found = link;
-                }
-            }
+    while link <= n {
+        if is_marked(cells, link - 1, scope, key) {
+            return link;
+        }
+        let next = cells[(link - 1) * 8 + 512 + 6];
+        if next <= link {
+            return 0;
         }
         link = next;
     }
-    found
+    0
 }
 
 // Whether the row at a place has the name of n letters from start on, where their keys are equal.
@@ -265,7 +270,10 @@ pub fn find(s: &[u8], cells: &[usize], n: usize, scope: Scope, start: usize, end
                 let key = hashing::key_of(s, start, letters);
                 let chain = hashing::chain_of(scope, key);
                 let head = cells[chain + 256];
-                if head <= 424 {
+                if head == 0 {
+                    return unknown();
+                }
+                if n <= 424 {
                     let found = chained(cells, n, scope, key, head);
                     if found == 0 {
                         return unknown();

@@ -1,11 +1,22 @@
 // One row more: its numbers, the end of its chain, and what it adds to the counts.
 ghost use mathlib.Core.Path.{_≡_};
-ghost use Prim.Native.Nat.{_-_, _<_};
+ghost use Prim.Native.Nat.{_+_, _-_, _*_, _<_};
 ghost use Rattle.names.specs.Tables.{roomIn};
-ghost use Rattle.names.specs.Index.{withRow, kindPlace, firstBy, tallied};
+ghost use Rattle.names.specs.Index.{withRow, linkPlace, kindPlace, firstBy, tallied};
 use super::Scope;
 use super::Sought;
 use refusals::Row;
+
+// Where the link to the row behind the last of a chain stands: in that row, or with no row in the chain at its head.
+fn link_place(chain: usize, last: usize) -> usize
+    requires { ⌜ (chain < 128) × (last * 8 + 520 < 18446744073709551616) ⌝ }
+    ensures { λ r. ⌜ (r ≡ linkPlace chain last) × (r < last * 8 + 512) ⌝ }
+{
+    if last == 0 {
+        return chain + 256;
+    }
+    (last - 1) * 8 + 512 + 6
+}
 
 // The row behind the first n, as the last of its chain.
 pub(crate) fn enter(s: &[u8], cells: &mut [usize], n: usize, row: Row)
@@ -14,7 +25,8 @@ pub(crate) fn enter(s: &[u8], cells: &mut [usize], n: usize, row: Row)
 {
     let key = super::hashing::key_in(s, row.start, row.end);
     let chain = super::hashing::chain_of(Scope::Numbered(row.scope), key);
-    let last = cells[chain + 256];
+    let last = super::least(cells[chain + 384], n);
+    let place = link_place(chain, last);
     let first = n * 8 + 512;
     cells[first] = row.start;
     cells[first + 1] = row.end;
@@ -22,9 +34,10 @@ pub(crate) fn enter(s: &[u8], cells: &mut [usize], n: usize, row: Row)
     cells[first + 3] = row.sort;
     cells[first + 4] = row.typ;
     cells[first + 5] = row.value;
-    cells[first + 6] = last;
+    cells[first + 6] = 0;
     cells[first + 7] = key;
-    cells[chain + 256] = n + 1;
+    cells[place] = n + 1;
+    cells[chain + 384] = n + 1;
     cells[0] = n + 1;
 }
 

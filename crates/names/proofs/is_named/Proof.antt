@@ -7,70 +7,51 @@ use native.Mathlib.Omega.{arith}
 use borrow.Author.Needs.{needs}
 use Rattle.names.proofs.is_named.Statement.{statement}
 use Rattle.names.proofs.is_named.Tie as tie
-use Rattle.names.proofs.is_named.Reads as reads
-use Rattle.names.proofs.is_named.Lts as lts
-use Rattle.names.proofs.least.Reads as least-reads
-use Rattle.names.proofs.same_letters.Reads as same-letters-reads
 
--- src/lib.rt:243:28
 mul-least : tie.Need-mul-least
 mul-least c = search needs
 
--- src/lib.rt:243:28
 add-least : tie.Need-add-least
 add-least c = search needs
 
--- src/lib.rt:243:28
 add-least-2 : tie.Need-add-least-2
 add-least-2 c = search needs
 
--- src/lib.rt:243:22
 mul-least-2 : tie.Need-mul-least-2
 mul-least-2 c = search needs
 
--- src/lib.rt:243:22
 shared-slice-read-least : tie.Need-shared-slice-read-least
 shared-slice-read-least c = search needs
 
--- src/lib.rt:243:9
 least-requires : tie.Need-least-requires
 least-requires c κs = search needs
 
--- src/lib.rt:245:9
 returns : tie.Need-returns
 returns c t k = let q : _≡_ {A = ℕ} 0 1 = cc in absurd (omega arith)
 
--- src/lib.rt:247:26
 mul-if2 : tie.Need-mul-if2
 mul-if2 c = search needs
 
--- src/lib.rt:247:26
 add-if2 : tie.Need-add-if2
 add-if2 c = search needs
 
--- src/lib.rt:247:20
 mul-if2-2 : tie.Need-mul-if2-2
 mul-if2-2 c = search needs
 
--- src/lib.rt:247:20
 shared-slice-read-if2 : tie.Need-shared-slice-read-if2
 shared-slice-read-if2 c = search needs
 
--- src/lib.rt:248:9
 returns-2 : tie.Need-returns-2
 returns-2 c t k = let q : _≡_ {A = ℕ} 0 1 = cc in absurd (omega arith)
 
--- src/lib.rt:251:9
 returns-3 : tie.Need-returns-3
 unfolding rowAt
 returns-3 c t k = let args = (c .before .before .before .before .before .before .before .before .args) in
     named-short (now (args .s)) _ _ _ (args .start) (args .n) (c .before .before .before .before .least .ensures) (c .before .before .before .if1 .left) (c .before .if2 .left) (c .before .before .before .before .before .before .before .before .pre .2) (record { bytes = λ i. omega (arith, c .before .before .before .before .before .before .before .shared-slice-known .given i) }) (c .if3 .taken) k
 
--- src/lib.rt:253:5
 same-letters-requires : tie.Need-same-letters-requires
 same-letters-requires c κs = search needs
 
--- src/lib.rt:239:1
 returns-4 : tie.Need-returns-4
 unfolding rowAt
 returns-4 c t k = let args = (c .before .before .before .before .before .before .before .before .before .args) in

@@ -2,35 +2,25 @@ use native.Mathlib.Omega.{arith}
 use borrow.Author.Needs.{needs}
 use Rattle.names.proofs.hashing.chain_of.Statement.{statement}
 use Rattle.names.proofs.hashing.chain_of.Tie as tie
-use Rattle.names.proofs.hashing.chain_of.Reads as reads
-use Rattle.names.proofs.hashing.chain_of.Lts as lts
-use Rattle.names.proofs.hashing.part_of.Reads as part-of-reads
 
--- src/hashing.rt:82:9
 part-of-requires : tie.Need-part-of-requires
 part-of-requires c κs = search needs
 
--- src/hashing.rt:83:6
 mul-result : tie.Need-mul-result
 mul-result c = search needs
 
--- src/hashing.rt:83:6
 add-result : tie.Need-add-result
 add-result c = search needs
 
--- src/hashing.rt:83:48
 mul-result-2 : tie.Need-mul-result-2
 mul-result-2 c = search needs
 
--- src/hashing.rt:83:6
 add-result-2 : tie.Need-add-result-2
 add-result-2 c = search needs
 
--- src/hashing.rt:83:5
 mul-result-3 : tie.Need-mul-result-3
 mul-result-3 c = search needs
 
--- src/hashing.rt:79:1
 returns : tie.Need-returns
 returns c = (rw (c .part-of .ensures .0), omega arith)
 

@@ -7,25 +7,17 @@ use native.Mathlib.Omega.{arith}
 use borrow.Author.Needs.{needs}
 use Rattle.names.proofs.hashing.key_in.Statement.{statement}
 use Rattle.names.proofs.hashing.key_in.Tie as tie
-use Rattle.names.proofs.hashing.key_in.Reads as reads
-use Rattle.names.proofs.hashing.key_in.Lts as lts
-use Rattle.names.proofs.hashing.key_of.Reads as key-of-reads
-use Rattle.names.proofs.size.Reads as size-reads
 
--- src/hashing.rt:61:9
 size-requires : tie.Need-size-requires
 size-requires c κs = search needs
 
--- src/hashing.rt:63:9
 returns : tie.Need-returns
 returns c = key-none _ (sym (c .before .size .ensures) ∙ (c .if1 .taken))
 
--- src/hashing.rt:65:5
 key-of-requires : tie.Need-key-of-requires
 key-of-requires c κs = let args = (c .before .before .before .args) in
     (omega (arith, c .if1 .left), part-within (now (args .s)) (args .start) (args .end) _ (c .before .size .ensures) (c .if1 .left))
 
--- src/hashing.rt:58:1
 returns-2 : tie.Need-returns-2
 returns-2 c = let args = (c .before .before .before .before .args) in
     (c .key-of .ensures) ∙ ap keyOf (part-whole (now (args .s)) (args .start) (args .end) _ (c .before .before .size .ensures) (c .before .if1 .left))

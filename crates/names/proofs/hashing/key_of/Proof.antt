@@ -1,62 +1,45 @@
 use Rattle.names.specs.Hashing.{key-three, key-eight, key-more}
 use denote.Ref.{now}
 use mathlib.Core.Path.{_∙_}
-use native.Mathlib.Omega.{arith}
 use borrow.Author.Needs.{needs}
 use Rattle.names.proofs.hashing.key_of.Statement.{statement}
 use Rattle.names.proofs.hashing.key_of.Tie as tie
-use Rattle.names.proofs.hashing.key_of.Reads as reads
-use Rattle.names.proofs.hashing.key_of.Lts as lts
-use Rattle.names.proofs.hashing.eight.Reads as eight-reads
-use Rattle.names.proofs.hashing.three.Reads as three-reads
 
--- src/hashing.rt:46:9
 three-requires : tie.Need-three-requires
 three-requires c κs = search needs
 
--- src/hashing.rt:46:9
 returns : tie.Need-returns
 returns c = let args = (c .before .before .before .args) in
     (c .three .ensures) ∙ key-three (now (args .s)) (args .start) (args .n) (c .before .before .before .pre .1) (c .before .before .before .pre .0) (c .before .if1 .taken)
 
--- src/hashing.rt:48:32
 add-eight : tie.Need-add-eight
 add-eight c = search needs
 
--- src/hashing.rt:48:32
 sub-eight : tie.Need-sub-eight
 sub-eight c = search needs
 
--- src/hashing.rt:48:9
 eight-requires : tie.Need-eight-requires
 eight-requires c κs = search needs
 
--- src/hashing.rt:50:9
 returns-2 : tie.Need-returns-2
 returns-2 c = let args = (c .before .before .before .before .args) in
     (c .before .eight .ensures) ∙ key-eight (now (args .s)) (args .start) (args .n) (c .before .before .before .before .pre .1) (c .before .before .if1 .left) (c .if2 .taken)
 
--- src/hashing.rt:52:27
 sub-middle : tie.Need-sub-middle
 sub-middle c = search needs
 
--- src/hashing.rt:52:18
 add-middle : tie.Need-add-middle
 add-middle c = search needs
 
--- src/hashing.rt:53:34
 add-eight-2 : tie.Need-add-eight-2
 add-eight-2 c = search needs
 
--- src/hashing.rt:53:9
 eight-requires-2 : tie.Need-eight-requires-2
 eight-requires-2 c κs = search needs
 
--- src/hashing.rt:54:5
 add-result : tie.Need-add-result
 add-result c = search needs
 
--- src/hashing.rt:41:1
 returns-3 : tie.Need-returns-3
 returns-3 c = let args = (c .before .before .before .before .before .args) in
     rw ((c .eight2 .ensures), (c .before .before .eight .ensures)) (key-more (now (args .s)) (args .start) (args .n) (c .before .before .before .before .before .pre .1) (c .before .if2 .left))

@@ -1,0 +1,56 @@
+use Rattle.names.specs.Tables.{rowAt}
+use borrow.Author.Tests.{eq-eqb, ne-eqb}
+use mathlib.Core.Path.{_∙_}
+use borrow.Author.Needs.{needs}
+use Rattle.names.proofs.is_marked.Statement.{statement}
+use Rattle.names.proofs.is_marked.Tie as tie
+
+mul-first : tie.Need-mul-first
+mul-first c = search needs
+
+add-first : tie.Need-add-first
+add-first c = search needs
+
+add-if1 : tie.Need-add-if1
+add-if1 c = search needs
+
+mul-if1 : tie.Need-mul-if1
+mul-if1 c = search needs
+
+shared-slice-read-if1 : tie.Need-shared-slice-read-if1
+shared-slice-read-if1 c = search needs
+
+add-is-in : tie.Need-add-is-in
+add-is-in c = search needs
+
+mul-is-in : tie.Need-mul-is-in
+mul-is-in c = search needs
+
+shared-slice-read-is-in : tie.Need-shared-slice-read-is-in
+shared-slice-read-is-in c = search needs
+
+is-in-requires : tie.Need-is-in-requires
+is-in-requires c κs = search needs
+
+returns : tie.Need-returns
+unfolding rowAt
+returns c = (c .is-in .ensures) ∙ simp (eq-eqb _ _ (c .before .before .if1 .taken))
+
+returns-2 : tie.Need-returns-2
+returns-2 c = simp (ne-eqb _ _ (c .if1 .left))
+
+pub is-marked-spec : {M : Type 1} → statement M
+is-marked-spec =
+    tie.close
+    (tie.spec
+    mul-first
+    add-first
+    add-if1
+    mul-if1
+    shared-slice-read-if1
+    add-is-in
+    mul-is-in
+    shared-slice-read-is-in
+    is-in-requires
+    returns
+    returns-2)
