@@ -31,3 +31,7 @@ module _ (s : List ℕ) (rows : List Row) (wanted : ℕ) (port : Port) where
   pub argument-plain : port .dotted ≡ false → useRules wanted (argumentNamed s rows port) (port .first) ≡ argumentRules s rows wanted port
   unfolding placeRules
   argument-plain e = simp e
+
+  pub argument-type : port .dotted ≡ true → outputOf s rows (taskNamed s rows (port .first)) (port .second) .typ ≡ argumentNamed s rows port .typ
+  unfolding portNamed argumentNamed
+  argument-type e = simp e

@@ -1,7 +1,7 @@
 // Ports and arguments as they are written: 4, 6 and 7.
 ghost use mathlib.Core.Path.{_≡_};
 ghost use Rattle.refusals.specs.Checks.{first};
-ghost use Rattle.refusals.specs.Ports.{dottedRules, portRules, argumentRules};
+ghost use Rattle.refusals.specs.Ports.{argumentNamed, dottedRules, portRules, argumentRules};
 ghost use Rattle.names.specs.Tables.{rowsIn};
 ghost use Rattle.names.specs.Index.{Indexed};
 ghost use Rattle.judging.specs.Parted.{partedRules};
@@ -9,6 +9,12 @@ use names::Scope;
 use refusals::Row;
 use refusals::Verdict;
 use text::Port;
+
+// What an argument breaks, and the type that it has.
+pub struct Argument {
+    pub verdict: Verdict,
+    pub typ: usize,
+}
 
 // Task "." output, for something of a type.
 fn dotted_rules(wanted: usize, task: Row, output: Row, port: Port) -> Verdict
@@ -75,14 +81,25 @@ pub fn port_rules(s: &[u8], cells: &[usize], n: usize, wanted: usize, port: Port
     super::use_rules(wanted, sensor, first)
 }
 
-// A guard's argument, where a type is wanted.
-pub fn argument_rules(s: &[u8], cells: &[usize], n: usize, wanted: usize, port: Port) -> Verdict
-    ensures { λ r. ⌜ (Indexed (now (s .entry)) (now (cells .entry)) → r ≡ first (argumentRules (now (s .entry)) (rowsIn (now (cells .entry)) n) wanted port)) ⌝ }
+// What a guard's argument breaks where a type is wanted, and the type that it has.
+pub fn argument_rules(s: &[u8], cells: &[usize], n: usize, wanted: usize, port: Port) -> Argument
+    ensures { λ r. ⌜ (Indexed (now (s .entry)) (now (cells .entry)) → (r .verdict ≡ first (argumentRules (now (s .entry)) (rowsIn (now (cells .entry)) n) wanted port)) × (r .typ ≡ argumentNamed (now (s .entry)) (rowsIn (now (cells .entry)) n) port .typ)) ⌝ }
 {
-    if port.dotted {
-        return parted_rules(s, cells, n, wanted, port);
-    }
     let first = port.first;
+    if port.dotted {
+        let task = meanings::task_named(s, cells, n, first);
+        let name = port.second;
+        let result = meanings::output_of(s, cells, n, task, name);
+        let verdict = dotted_rules(wanted, task, result, port);
+        return Argument {
+            verdict: verdict,
+            typ: result.typ,
+        };
+    }
     let row = meanings::argument_named(s, cells, n, port);
-    super::use_rules(wanted, row, first)
+    let verdict = super::use_rules(wanted, row, first);
+    Argument {
+        verdict: verdict,
+        typ: row.typ,
+    }
 }

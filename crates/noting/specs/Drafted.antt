@@ -152,15 +152,15 @@ module _ (s : List ℕ) (all : List Row) (env : Env) (known : Known) (rates task
   Behind p item = Drafted p (env .rows ++ declares s (env .rows) item) (drafted s all (env .rows) (env .draft) item) (notedBy s (env .rows) known item) ratesThen tasksThen aimsThen
 
   kept-mode : {q : State} {item : Item} → Laying item → Before q → Moded (env .draft .mode) (known .period) (known .activities) (known .calls) (known .updates) ratesThen tasksThen aimsThen
-  kept-mode l d = moded-laid (d .mode) (known .frequency) (l .number) (l .rated) (l .tasked) (l .aimed)
+  kept-mode l d = moded-laid (d .mode) (l .rate) (l .task) (l .aim) (l .rated) (l .tasked) (l .aimed)
 
   module _ (name : Name) (many : ℕ) {q : State} (v : first (rules s all env (I.Invoke name many)) ≡ Fine) (fits : RowsFit (env .rows)) (l : Laying (I.Invoke name many)) (d : Before q) (room : activitiesIn (env .draft .mode) < activityRoom) where
     invoked-mode : Moded (drafted s all (env .rows) (env .draft) (I.Invoke name many) .mode) (known .period) (oneMore activityRoom (known .activities)) (oneMore activityRoom (known .calls)) (known .updates) ratesThen tasksThen aimsThen
     invoked-mode =
         let row = taskNamed s (env .rows) name in
-        let is : l .number ≡ row .value = l .acts .invokes name many refl in
-        moded-call (d .mode) (known .frequency) (l .number) (l .rated) (l .tasked) (l .aimed)
-        (acting {A = Call} (env .draft) (record { task = row .value; sources = [] })) (sym (d .frequency)) (sym is) room (rw is (call-fine s (env .rows) fits (env .draft .mode) name many v .0))
+        let is = l .invokes name many refl in
+        moded-call (d .mode) (l .rate) (l .task) (l .aim) (l .rated) (l .tasked) (l .aimed)
+        (acting {A = Call} (env .draft) (record { task = row .value; sources = [] })) (sym (is .0 ∙ d .frequency)) (sym (is .1)) room (rw (is .1) (call-fine s (env .rows) fits (env .draft .mode) name many v .0))
 
     invoked-wants : InputsWanted (env .rows ++ []) (inputTypes (env .rows) (taskNamed s (env .rows) name) many) (notedBy s (env .rows) known (I.Invoke name many))
     invoked-wants = record { inputs = rw (append-nil (env .rows)) (call-fine s (env .rows) fits (env .draft .mode) name many v .1) }
@@ -213,18 +213,18 @@ module _ (s : List ℕ) (all : List Row) (env : Env) (known : Known) (rates task
   drafted-on (arg-last port c) v h f l d = record { started = d .started; frequency = d .frequency; mode = moded-source (portNamed s (env .rows) port .value) (kept-mode l d); asks = tt }
   drafted-on (update name source does) v h f l d =
       let row = actuatorNamed s (env .rows) name in
-      let is : l .number ≡ row .value = l .acts .updates name source refl in
+      let is : l .aim ≡ row .value = l .updates name source refl in
       record {
         started = d .started;
         frequency = d .frequency;
         mode =
-            moded-update (d .mode) (known .frequency) (l .number) (l .rated) (l .tasked) (l .aimed)
+            moded-update (d .mode) (l .rate) (l .task) (l .aim) (l .rated) (l .tasked) (l .aimed)
             (acting {A = Update} (env .draft) (record { source = portNamed s (env .rows) source .value; target = row .value })) (sym is)
             (does-room (env .rows) (env .draft) known does (d .asks)) (rw is (update-fine s (env .rows) f (env .draft .mode) name (fine-parts _ _ v .0)));
         asks = tt;
       }
   drafted-on (switch k name does a b) v h f l d =
-      let mode = moded-switch (d .mode) (known .frequency) (l .number) (l .rated) (l .tasked) (l .aimed) (acting {A = ℕ} (env .draft) (modeNamed s all name .value)) (does-room (env .rows) (env .draft) known does (d .asks)) in
+      let mode = moded-switch (d .mode) (l .rate) (l .task) (l .aim) (l .rated) (l .tasked) (l .aimed) (acting {A = ℕ} (env .draft) (modeNamed s all name .value)) (does-room (env .rows) (env .draft) known does (d .asks)) in
       record { started = d .started; frequency = d .frequency; mode = mode; asks = tt }
   drafted-on (mode-ends k) v h f l d = record { started = d .started; frequency = d .frequency; mode = kept-mode l d; asks = tt }
   drafted-on (module-ends k) v h f l d = record { started = d .started; frequency = d .frequency; mode = kept-mode l d; asks = tt }

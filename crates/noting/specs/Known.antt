@@ -4,7 +4,6 @@ use mathlib.Core.List.{List}
 use mathlib.Core.Bool.{Bool, false, cond, _||_}
 use lib.Dec.{ltb}
 use Rattle.text.specs.declared.Name.{Name}
-use Rattle.text.specs.declared.Port.{Port}
 use Rattle.text.specs.declared.Item.{Item}
 use Rattle.text.specs.declared.Item.the-variants as I
 use Rattle.model.specs.Rooms.{activityRoom}
@@ -38,17 +37,17 @@ begunBy s known start digits milli = record { started = known .started || start;
 abbrev pub headedBy : List ℕ → Known → Name → Known
 headedBy s known digits = record { started = known .started; period = known .period; frequency = min (numberOf s digits) 4294967296; calls = known .calls; updates = known .updates; activities = known .activities; operand = known .operand; left = known .left; task = known .task; index = known .index }
 
--- a guard: the type of its operands, and their number
-abbrev pub guardedBy : List ℕ → Known → Name → Known
-guardedBy s known name = record { started = known .started; period = known .period; frequency = known .frequency; calls = known .calls; updates = known .updates; activities = known .activities; operand = operandType (functionBy (functionNamed s name)); left = operandsOf (functionBy (functionNamed s name)); task = known .task; index = known .index }
+-- a guard of this number: the type of its operands, and how many they are
+abbrev pub guardedBy : Known → ℕ → Known
+guardedBy known number = record { started = known .started; period = known .period; frequency = known .frequency; calls = known .calls; updates = known .updates; activities = known .activities; operand = operandType (functionBy number); left = operandsOf (functionBy number); task = known .task; index = known .index }
 
--- an operand: what is left open has its type
-abbrev pub operatedBy : List ℕ → List Row → Known → Port → Known
-operatedBy s rows known port = record { started = known .started; period = known .period; frequency = known .frequency; calls = known .calls; updates = known .updates; activities = known .activities; operand = settled (argumentNamed s rows port .typ) (known .operand); left = known .left - 1; task = known .task; index = known .index }
+-- an operand of this type: what is left open has it
+abbrev pub operatedBy : Known → ℕ → Known
+operatedBy known type = record { started = known .started; period = known .period; frequency = known .frequency; calls = known .calls; updates = known .updates; activities = known .activities; operand = settled type (known .operand); left = known .left - 1; task = known .task; index = known .index }
 
--- a task is invoked: its number, and that of its first argument
-abbrev pub invokedBy : List ℕ → List Row → Known → Name → Known
-invokedBy s rows known name = record { started = known .started; period = known .period; frequency = known .frequency; calls = oneMore activityRoom (known .calls); updates = known .updates; activities = oneMore activityRoom (known .activities); operand = known .operand; left = known .left; task = taskNamed s rows name .value; index = 0 }
+-- the task of this number is invoked; its first argument comes next
+abbrev pub invokedBy : Known → ℕ → Known
+invokedBy known task = record { started = known .started; period = known .period; frequency = known .frequency; calls = oneMore activityRoom (known .calls); updates = known .updates; activities = oneMore activityRoom (known .activities); operand = known .operand; left = known .left; task = task; index = 0 }
 
 -- an argument of a task
 abbrev pub arguedBy : Known → Known
@@ -75,9 +74,9 @@ notedBy s rows known (I.Output typ name value) = known
 notedBy s rows known (I.TaskEnd name) = known
 notedBy s rows known (I.ModeBegin start at name digits milli) = begunBy s known start digits milli
 notedBy s rows known (I.Activity kind at digits) = headedBy s known digits
-notedBy s rows known (I.Guard name arguments) = guardedBy s known name
-notedBy s rows known (I.GuardArg port) = operatedBy s rows known port
-notedBy s rows known (I.Invoke task arguments) = invokedBy s rows known task
+notedBy s rows known (I.Guard name arguments) = guardedBy known (functionNamed s name)
+notedBy s rows known (I.GuardArg port) = operatedBy known (argumentNamed s rows port .typ)
+notedBy s rows known (I.Invoke task arguments) = invokedBy known (taskNamed s rows task .value)
 notedBy s rows known (I.Arg port) = arguedBy known
 notedBy s rows known (I.Update actuator source) = updatedBy known
 notedBy s rows known (I.Switch name) = switchedBy known

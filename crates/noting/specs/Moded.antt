@@ -85,7 +85,7 @@ module _ {mode : Mode} {period activities calls updates : ℕ} {rates tasks aims
   pub updates-many : updates ≡ length (mode .updates)
   updates-many = m .held-aims .many ∙ length-map (mode .updates) (λ act. act .what .target)
 
-  module _ {ratesThen tasksThen aimsThen : List ℕ} (frequency number : ℕ) (r : ratesThen ≡ set rates calls frequency) (t : tasksThen ≡ set tasks calls number) (a : aimsThen ≡ set aims updates number) where
+  module _ {ratesThen tasksThen aimsThen : List ℕ} (rate task aim : ℕ) (r : ratesThen ≡ set rates calls rate) (t : tasksThen ≡ set tasks calls task) (a : aimsThen ≡ set aims updates aim) where
     -- what is laid behind the numbers of a mode changes nothing of it
     pub moded-laid : Moded mode period activities calls updates ratesThen tasksThen aimsThen
     moded-laid =
@@ -93,14 +93,14 @@ module _ {mode : Mode} {period activities calls updates : ℕ} {rates tasks aims
           lasts = m .lasts;
           has = m .has;
           room = m .room;
-          held-rates = holds-laid frequency r (m .held-rates);
-          held-tasks = holds-laid number t (m .held-tasks);
-          held-aims = holds-laid number a (m .held-aims);
+          held-rates = holds-laid rate r (m .held-rates);
+          held-tasks = holds-laid task t (m .held-tasks);
+          held-aims = holds-laid aim a (m .held-aims);
           tasks-once = m .tasks-once;
           aims-once = m .aims-once;
         }
 
-    pub moded-call : (call : Act Call) → call .frequency ≡ frequency → call .what .task ≡ number → activitiesIn mode < activityRoom → among number (invokedIn mode) ≡ false
+    pub moded-call : (call : Act Call) → call .frequency ≡ rate → call .what .task ≡ task → activitiesIn mode < activityRoom → among task (invokedIn mode) ≡ false
         → Moded (withCall mode call) period (oneMore activityRoom activities) (oneMore activityRoom calls) updates ratesThen tasksThen aimsThen
     moded-call call f w l u =
         let n = calls-many in
@@ -109,14 +109,14 @@ module _ {mode : Mode} {period activities calls updates : ℕ} {rates tasks aims
           lasts = m .lasts;
           has = one-more activityRoom activities (omega (arith, m .has, l)) ∙ omega (arith, m .has, k);
           room = omega (arith, k, l);
-          held-rates = rw (map-append (λ (act : Act Call). act .frequency) (mode .calls) (call ∷ []), f) (holds-more frequency r (m .held-rates) (omega (arith, n, l)));
-          held-tasks = rw (map-append (λ (act : Act Call). act .what .task) (mode .calls) (call ∷ []), w) (holds-more number t (m .held-tasks) (omega (arith, n, l)));
-          held-aims = holds-laid number a (m .held-aims);
-          tasks-once = rw (map-append (λ (act : Act Call). act .what .task) (mode .calls) (call ∷ []), w) (once-more (invokedIn mode) number (m .tasks-once) u);
+          held-rates = rw (map-append (λ (act : Act Call). act .frequency) (mode .calls) (call ∷ []), f) (holds-more rate r (m .held-rates) (omega (arith, n, l)));
+          held-tasks = rw (map-append (λ (act : Act Call). act .what .task) (mode .calls) (call ∷ []), w) (holds-more task t (m .held-tasks) (omega (arith, n, l)));
+          held-aims = holds-laid aim a (m .held-aims);
+          tasks-once = rw (map-append (λ (act : Act Call). act .what .task) (mode .calls) (call ∷ []), w) (once-more (invokedIn mode) task (m .tasks-once) u);
           aims-once = m .aims-once;
         }
 
-    pub moded-update : (update : Act Update) → update .what .target ≡ number → activitiesIn mode < activityRoom → among number (updatedIn mode) ≡ false
+    pub moded-update : (update : Act Update) → update .what .target ≡ aim → activitiesIn mode < activityRoom → among aim (updatedIn mode) ≡ false
         → Moded (withUpdate mode update) period (oneMore activityRoom activities) calls (oneMore activityRoom updates) ratesThen tasksThen aimsThen
     moded-update update w l u =
         let n = updates-many in
@@ -125,11 +125,11 @@ module _ {mode : Mode} {period activities calls updates : ℕ} {rates tasks aims
           lasts = m .lasts;
           has = one-more activityRoom activities (omega (arith, m .has, l)) ∙ omega (arith, m .has, k);
           room = omega (arith, k, l);
-          held-rates = holds-laid frequency r (m .held-rates);
-          held-tasks = holds-laid number t (m .held-tasks);
-          held-aims = rw (map-append (λ (act : Act Update). act .what .target) (mode .updates) (update ∷ []), w) (holds-more number a (m .held-aims) (omega (arith, n, l)));
+          held-rates = holds-laid rate r (m .held-rates);
+          held-tasks = holds-laid task t (m .held-tasks);
+          held-aims = rw (map-append (λ (act : Act Update). act .what .target) (mode .updates) (update ∷ []), w) (holds-more aim a (m .held-aims) (omega (arith, n, l)));
           tasks-once = m .tasks-once;
-          aims-once = rw (map-append (λ (act : Act Update). act .what .target) (mode .updates) (update ∷ []), w) (once-more (updatedIn mode) number (m .aims-once) u);
+          aims-once = rw (map-append (λ (act : Act Update). act .what .target) (mode .updates) (update ∷ []), w) (once-more (updatedIn mode) aim (m .aims-once) u);
         }
 
     pub moded-switch : (switch : Act ℕ) → activitiesIn mode < activityRoom → Moded (withSwitch mode switch) period (oneMore activityRoom activities) calls updates ratesThen tasksThen aimsThen

@@ -1,17 +1,13 @@
 // What the judging pass knows at a place of the text beside the table of names, and how each item adds to it.
-// Promises that it grows by each item as its definitions say, for every text, every table whose index is right for it, and every item; their laws tie it to the module so far.
+// Promises that it grows by each item as its definitions say, for every text and every item; their laws tie it to the module so far.
 // Builds on what names mean, on the rules of activities, and on the table of names.
 ghost use mathlib.Core.Path.{_≡_};
 ghost use mathlib.Core.Bool.{_||_};
 ghost use Prim.Native.Nat.{_-_};
 ghost use Rattle.activities.specs.Operands.{settled as settledType};
-ghost use Rattle.names.specs.Tables.{rowsIn};
-ghost use Rattle.names.specs.Index.{Indexed};
-ghost use Rattle.noting.specs.Known.{nothingKnown, oneMore, begunBy, headedBy, guardedBy, operatedBy, invokedBy, arguedBy, updatedBy, switchedBy, notedBy};
+ghost use Rattle.noting.specs.Known.{nothingKnown, oneMore, begunBy, headedBy, guardedBy, operatedBy, invokedBy, arguedBy, updatedBy, switchedBy};
 use activities::operands;
-use text::Item;
 use text::Name;
-use text::Port;
 
 pub mod laying;
 
@@ -68,7 +64,7 @@ fn either(one: bool, other: bool) -> bool
 }
 
 // A mode begins.
-fn begun(s: &[u8], known: Known, start: bool, digits: Name, milli: bool) -> Known
+pub fn begun(s: &[u8], known: Known, start: bool, digits: Name, milli: bool) -> Known
     ensures { λ r. ⌜ r ≡ begunBy (now (s .entry)) known start digits milli ⌝ }
 {
     let started = either(known.started, start);
@@ -83,7 +79,7 @@ fn begun(s: &[u8], known: Known, start: bool, digits: Name, milli: bool) -> Know
 }
 
 // An activity of this frequency.
-fn headed(s: &[u8], known: Known, digits: Name) -> Known
+pub fn headed(s: &[u8], known: Known, digits: Name) -> Known
     ensures { λ r. ⌜ r ≡ headedBy (now (s .entry)) known digits ⌝ }
 {
     let frequency = meanings::number_of(s, digits);
@@ -92,11 +88,10 @@ fn headed(s: &[u8], known: Known, digits: Name) -> Known
     next
 }
 
-// A guard, whose operands come next.
-fn guarded(s: &[u8], known: Known, name: Name) -> Known
-    ensures { λ r. ⌜ r ≡ guardedBy (now (s .entry)) known name ⌝ }
+// A guard of this number, whose operands come next.
+pub fn guarded(known: Known, number: usize) -> Known
+    ensures { λ r. ⌜ r ≡ guardedBy known number ⌝ }
 {
-    let number = meanings::function_named(s, name);
     let operand = operands::operand_type(number);
     let left = operands::operands_of(number);
     let mut next = known;
@@ -123,12 +118,11 @@ fn settled(typ: usize, wanted: usize) -> usize
     wanted
 }
 
-// An operand of a guard: what is left open has its type.
-fn operated(s: &[u8], cells: &[usize], n: usize, known: Known, port: Port) -> Known
-    ensures { λ r. ⌜ (Indexed (now (s .entry)) (now (cells .entry)) → r ≡ operatedBy (now (s .entry)) (rowsIn (now (cells .entry)) n) known port) ⌝ }
+// An operand of this type: what is left open has it.
+pub fn operated(known: Known, typ: usize) -> Known
+    ensures { λ r. ⌜ r ≡ operatedBy known typ ⌝ }
 {
-    let row = meanings::argument_named(s, cells, n, port);
-    let operand = settled(row.typ, known.operand);
+    let operand = settled(typ, known.operand);
     let left = less(known.left);
     let mut next = known;
     next.operand = operand;
@@ -136,23 +130,22 @@ fn operated(s: &[u8], cells: &[usize], n: usize, known: Known, port: Port) -> Kn
     next
 }
 
-// A task is invoked, whose arguments come next.
-fn invoked(s: &[u8], cells: &[usize], n: usize, known: Known, name: Name) -> Known
-    ensures { λ r. ⌜ (Indexed (now (s .entry)) (now (cells .entry)) → r ≡ invokedBy (now (s .entry)) (rowsIn (now (cells .entry)) n) known name) ⌝ }
+// The task of this number is invoked; its arguments come next.
+pub fn invoked(known: Known, task: usize) -> Known
+    ensures { λ r. ⌜ r ≡ invokedBy known task ⌝ }
 {
-    let task = meanings::task_named(s, cells, n, name);
     let calls = more(32, known.calls);
     let all = more(32, known.activities);
     let mut next = known;
     next.calls = calls;
     next.activities = all;
-    next.task = task.value;
+    next.task = task;
     next.index = 0;
     next
 }
 
 // An argument of a task.
-fn argued(known: Known) -> Known
+pub fn argued(known: Known) -> Known
     ensures { λ r. ⌜ r ≡ arguedBy known ⌝ }
 {
     let index = more(424, known.index);
@@ -162,7 +155,7 @@ fn argued(known: Known) -> Known
 }
 
 // An actuator is updated.
-fn updated(known: Known) -> Known
+pub fn updated(known: Known) -> Known
     ensures { λ r. ⌜ r ≡ updatedBy known ⌝ }
 {
     let updates = more(32, known.updates);
@@ -174,66 +167,11 @@ fn updated(known: Known) -> Known
 }
 
 // A switch.
-fn switched(known: Known) -> Known
+pub fn switched(known: Known) -> Known
     ensures { λ r. ⌜ r ≡ switchedBy known ⌝ }
 {
     let all = more(32, known.activities);
     let mut next = known;
     next.activities = all;
     next
-}
-
-// What is known behind an item.
-pub fn noted(s: &[u8], cells: &[usize], n: usize, known: Known, item: Item) -> Known
-    ensures { λ r. ⌜ (Indexed (now (s .entry)) (now (cells .entry)) → r ≡ notedBy (now (s .entry)) (rowsIn (now (cells .entry)) n) known item) ⌝ }
-{
-    match item {
-        Item::ModeBegin {
-            start,
-            at: _,
-            name: _,
-            digits,
-            milli,
-        } => begun(s, known, start, digits, milli),
-        Item::Activity {
-            kind: _,
-            at: _,
-            digits,
-        } => headed(s, known, digits),
-        Item::Guard { name, count: _ } => guarded(s, known, name),
-        Item::GuardArg(port) => operated(s, cells, n, known, port),
-        Item::Invoke { task, count: _ } => invoked(s, cells, n, known, task),
-        Item::Arg(_) => argued(known),
-        Item::Update {
-            actuator: _,
-            source: _,
-        } => updated(known),
-        Item::Switch(_) => switched(known),
-        Item::Module(_) => known,
-        Item::Section => known,
-        Item::Constant { name: _, value: _ } => known,
-        Item::Sensor {
-            typ: _,
-            name: _,
-            getter: _,
-        } => known,
-        Item::Actuator {
-            typ: _,
-            name: _,
-            value: _,
-            setter: _,
-        } => known,
-        Item::TaskBegin(_) => known,
-        Item::Input { typ: _, name: _ } => known,
-        Item::Output {
-            typ: _,
-            name: _,
-            value: _,
-        } => known,
-        Item::TaskEnd(_) => known,
-        Item::ModeEnd => known,
-        Item::ModuleEnd => known,
-        Item::End => known,
-        Item::No { number: _, at: _ } => known,
-    }
 }

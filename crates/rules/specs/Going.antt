@@ -64,10 +64,22 @@ pub record Answered (s : List ℕ) (verdict : Verdict) (cells : List ℕ) (n : �
   pub leftmost : verdict ≡ verdictOf s
   pub names : verdict ≡ Fine → Tabled s (allNames s) cells n
 
--- a turn of the pass: it answers, or it stands further on
-abbrev pub Turned : List ℕ → ℕ → Turn → List ℕ → List ℕ → List ℕ → List ℕ → Type 0
-Turned s from (Stop verdict n) cells rates tasks aims = Answered s verdict cells n
-Turned s from (On state at n known) cells rates tasks aims = (from < at) × Going s state at cells n known rates tasks aims
+-- a turn of the pass: it answers, or it stands behind what was read, which is further on
+abbrev pub Turned : List ℕ → ℕ → ReadItem → Turn → List ℕ → List ℕ → List ℕ → List ℕ → Type 0
+Turned s from read (Stop verdict n) cells rates tasks aims = Answered s verdict cells n
+Turned s from read (On n known) cells rates tasks aims = (from < read .next) × Going s (read .state) (read .next) cells n known rates tasks aims
+
+-- what an item breaks, what is known behind it, and what is laid ready, by what is known before it
+pub record Acts (s : List ℕ) (env : Env) (item : Item) (rows : List Row) (verdict : Verdict) (known next : Known) (rates tasks aims ratesThen tasksThen aimsThen : List ℕ) : Type 0 where
+  pub judged : verdict ≡ first (rules s (allNames s) env item)
+  pub noted : next ≡ notedBy s rows known item
+  pub laid : Laid s rows known item rates tasks aims ratesThen tasksThen aimsThen
+
+-- what an item declares is entered in the table
+pub record Enters (s cells : List ℕ) (n : ℕ) (item : Item) (cellsThen : List ℕ) (count : ℕ) : Type 0 where
+  pub declaration : Declaration
+  pub declared : rowsOf declaration ≡ map heldRow (declares s (rowsIn cells n) item)
+  pub entered : Entered s cells n declaration cellsThen count
 
 -- the table without names, and arrays for the activities of a mode
 pub record Spread (cells rates tasks aims : List ℕ) : Type 0 where
@@ -111,6 +123,11 @@ module _ {s : List ℕ} {state : State} {at : ℕ} {cells : List ℕ} {n : ℕ} 
           drafted = g .drafted;
         }
 
+    -- an item that is this one is judged by what is known where it stands
+    pub acts-by : {item : Item} → read .item ≡ item → {verdict : Verdict} → (Meets s (allNames s) (g .env) state at known item cells n ratesThen tasksThen aimsThen → verdict ≡ first (rules s (allNames s) (g .env) item))
+        → {next : Known} → next ≡ notedBy s (rowsIn cells n) known item → Acts s (g .env) (read .item) (rowsIn cells n) verdict known next rates tasks aims ratesThen tasksThen aimsThen
+    acts-by told v q = record { judged = rw told (v (rw told at meets)); noted = rw told q; laid = l }
+
   -- the rules of this item come first, and then those of the rest
   item-first : (v : Verdict) → v ≡ first (rules s (allNames s) (g .env) (read .item)) → isFine v ≡ false → v ≡ verdictOf s
   unfolding rulesFrom
@@ -148,10 +165,10 @@ module _ {s : List ℕ} {state : State} {at : ℕ} {cells : List ℕ} {n : ℕ} 
       }
 
   pub goes-on : {ratesThen tasksThen aimsThen : List ℕ} → Laid s (rowsIn cells n) known (read .item) rates tasks aims ratesThen tasksThen aimsThen → first (rules s (allNames s) (g .env) (read .item)) ≡ Fine → goes (read .item) ≡ true
-      → (declaration : Declaration) → rowsOf declaration ≡ map heldRow (declares s (rowsIn cells n) (read .item)) → {cellsThen : List ℕ} {count : ℕ} → Entered s cells n declaration cellsThen count
+      → {cellsThen : List ℕ} {count : ℕ} → Enters s cells n (read .item) cellsThen count
       → {more : Known} → more ≡ notedBy s (rowsIn cells n) known (read .item) → (at < read .next) × Going s (read .state) (read .next) cellsThen count more ratesThen tasksThen aimsThen
   unfolding rulesFrom rowsAfter envAfter
-  goes-on {ratesThen} {tasksThen} {aimsThen} l v k declaration e {cellsThen} {count} d {more} q =
+  goes-on {ratesThen} {tasksThen} {aimsThen} l v k {cellsThen} {count} d {more} q =
       let item = read .item in
       let env = g .env in
       let all = allNames s in
@@ -160,7 +177,7 @@ module _ {s : List ℕ} {state : State} {at : ℕ} {cells : List ℕ} {n : ℕ} 
       let items : itemsFrom s state at ≡ item ∷ itemsFrom s (read .state) (read .next) = rw p (from-on s state at (g .within) (rw p at k)) in
       let fits : RowsFit (env .rows ++ declares s (env .rows) item) = fitting s all (grow s all env item) env come v (record { items = []; to = refl }) (g .rowed .fits) in
       let sorted : Sorted (env .rows ++ declares s (env .rows) item) = rows-sorted s (env .rows) (item ∷ []) (g .rowed .sorted) in
-      let entry : rowsOf declaration ≡ map heldRow (declares s (env .rows) item) = rw (g .rowed .same) at e in
+      let entry : rowsOf (d .declaration) ≡ map heldRow (declares s (env .rows) item) = rw (g .rowed .same) at (d .declared) in
       let note : more ≡ notedBy s (env .rows) known item = rw (g .rowed .same) at q in (
         ahead .0,
         record {
@@ -168,7 +185,7 @@ module _ {s : List ℕ} {state : State} {at : ℕ} {cells : List ℕ} {n : ℕ} 
           within = ahead .1;
           left = g .left ∙ rw items (first-on (rules s all env item) _ v);
           declared = g .declared ∙ rw items;
-          rowed = rowed-on (g .rowed) (declares s (env .rows) item) fits sorted (joins s all env item v) declaration entry cellsThen count d;
+          rowed = rowed-on (g .rowed) (declares s (env .rows) item) fits sorted (joins s all env item v) (d .declaration) entry cellsThen count (d .entered);
           drafted = rw note (drafted-on s all env known rates tasks aims ratesThen tasksThen aimsThen come v (rows-room (g .rowed)) (g .rowed .fits) (rw (g .rowed .same) at l) (g .drafted));
         },
       )

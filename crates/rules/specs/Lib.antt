@@ -1,2 +1,3 @@
+pub mod Kinds
 pub mod Meets
 pub mod Going

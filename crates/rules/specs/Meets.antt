@@ -97,7 +97,7 @@ module _ {s : List ℕ} {all : List Row} {env : Env} {state : State} {at : ℕ} 
   unfolding headChecks headRules
   head-same m =
       let l = m .laid in
-      let b = moded-laid (m .drafted .mode) (known .frequency) (l .number) (l .rated) (l .tasked) (l .aimed) in
+      let b = moded-laid (m .drafted .mode) (l .rate) (l .task) (l .aim) (l .rated) (l .tasked) (l .aimed) in
       rw (b .has, b .lasts, b .held-rates .first-are)
 
   pub operand-same : {port : Port} (m : Meets s all env state at known (I.GuardArg port) cells n rates tasks aims)
@@ -118,8 +118,8 @@ module _ {s : List ℕ} {all : List Row} {env : Env} {state : State} {at : ℕ} 
   call-same {name} {many} m =
       let d = m .drafted .mode in
       let room = invoke-asked (env .rows) (env .draft) known (m .comes refl) (m .drafted .asks) in
-      let again = again-told (m .laid .number) (m .laid .tasked) (d .held-tasks) (d .tasks-once) (omega (arith, calls-many d, room)) in
-      rw (m .rowed .same, again, m .laid .acts .invokes name many refl)
+      let again = again-told (m .laid .task) (m .laid .tasked) (d .held-tasks) (d .tasks-once) (omega (arith, calls-many d, room)) in
+      rw (m .rowed .same, again, m .laid .invokes name many refl .1)
 
   pub update-same : {name : Name} {source : Port} (m : Meets s all env state at known (I.Update name source) cells n rates tasks aims)
       → updateChecks (eqb (twiceOf (take (oneMore activityRoom (known .updates)) aims)) (known .updates)) (actuatorNamed s (rowsIn cells n) name) name ++ portRules s (rowsIn cells n) (actuatorNamed s (rowsIn cells n) name .typ) source
@@ -128,8 +128,8 @@ module _ {s : List ℕ} {all : List Row} {env : Env} {state : State} {at : ℕ} 
   update-same {name} {source} m =
       let d = m .drafted .mode in
       let room = update-asked (env .rows) (env .draft) known (m .comes refl) (m .drafted .asks) in
-      let again = again-told (m .laid .number) (m .laid .aimed) (d .held-aims) (d .aims-once) (omega (arith, updates-many d, room)) in
-      rw (m .rowed .same, again, m .laid .acts .updates name source refl)
+      let again = again-told (m .laid .aim) (m .laid .aimed) (d .held-aims) (d .aims-once) (omega (arith, updates-many d, room)) in
+      rw (m .rowed .same, again, m .laid .updates name source refl)
 
   pub switch-same : {name : Name} (m : Meets s all env state at known (I.Switch name) cells n rates tasks aims)
       → targetChecks (isTarget s (rowsIn cells n) (itemsFrom s state at) name) name ≡ rules s all env (I.Switch name)

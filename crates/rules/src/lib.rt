@@ -1,28 +1,25 @@
 // Refusals 4 to 12: the judging pass over a text.
 // Promises the leftmost of 4 to 12, for every text whose items are kept, and for a text that breaks none the table of all its names.
 // Builds on the kept items of a text, on the rules of declarations and activities, and on what the pass knows at each item.
+ghost use mathlib.Core.Path.{_≡_};
+ghost use mathlib.Core.List.{List};
+ghost use Prim.Native.Nat.{ℕ, _<_};
+ghost use lib.ListN.{getD};
+ghost use Rattle.text.specs.declared.State.{State};
+ghost use Rattle.text.specs.Items.{itemAt};
 ghost use Rattle.kept.specs.Kept.{Kept};
+ghost use Rattle.kept.specs.Rows.{stateOf, readOf};
 ghost use Rattle.rules.specs.Going.{Going, Answered, Turned, Spread, Judges};
-use meanings::declaring;
 use noting::Known;
-use noting::laying;
 use refusals::Verdict;
-use text::State;
 
-mod verdicts;
+mod acting;
+mod declaring;
 
 // A turn of the pass: the answer and the number of names, or what is known at the next item.
 enum Turn {
-    Stop {
-        verdict: Verdict,
-        rows: usize,
-    },
-    On {
-        state: State,
-        at: usize,
-        rows: usize,
-        known: Known,
-    },
+    Stop { verdict: Verdict, rows: usize },
+    On { rows: usize, known: Known },
 }
 
 // The answer of the pass: what the text breaks, and how many names it declares.
@@ -37,7 +34,32 @@ pub struct Judged {
     pub rows: usize,
 }
 
-// Item k: it is judged, and where it breaks nothing, what it declares and does is entered.
+// An item before the modes: it is judged, and where it breaks nothing, what it declares is entered.
+fn declaration_step(
+    s: &[u8],
+    cells: &mut [usize],
+    n: usize,
+    known: Known,
+    row: &[usize; 16],
+) -> Turn
+    ensures { λ r. ⌜ (getD (now (row .entry)) 0 0 < 9 → (state : State) (at : ℕ) (rates tasks aims : List ℕ) → readOf (now (row .entry)) ≡ itemAt (now (s .entry)) state at → Going (now (s .entry)) state at (now (cells .entry)) n known rates tasks aims
+        → Turned (now (s .entry)) at (readOf (now (row .entry))) r (now (cells .exit)) rates tasks aims) ⌝ }
+{
+    let verdict = declaring::declaration_rules(s, cells, n, row);
+    let Verdict::Fine = verdict else {
+        return Turn::Stop {
+            verdict: verdict,
+            rows: n,
+        };
+    };
+    let rows = declaring::entered(s, cells, n, row);
+    Turn::On {
+        rows: rows,
+        known: known,
+    }
+}
+
+// Item k, whose row this is: it is judged, and where it breaks nothing, what it declares and does is entered.
 fn step<'a>(
     s: &'a [u8],
     memo: &'a [usize],
@@ -47,17 +69,18 @@ fn step<'a>(
     rates: &mut [usize],
     tasks: &mut [usize],
     aims: &mut [usize],
-    state: State,
+    state: usize,
     at: usize,
     known: Known,
+    row: &[usize; 16],
 ) -> Turn
-    ensures { λ r. ⌜ (Kept (now (s .entry)) (now (memo .entry)) → Going (now (s .entry)) state at (now (cells .entry)) n known (now (rates .entry)) (now (tasks .entry)) (now (aims .entry))
-        → Turned (now (s .entry)) at r (now (cells .exit)) (now (rates .exit)) (now (tasks .exit)) (now (aims .exit))) ⌝ }
+    ensures { λ r. ⌜ (Kept (now (s .entry)) (now (memo .entry)) → readOf (now (row .entry)) ≡ itemAt (now (s .entry)) (stateOf state) at → Going (now (s .entry)) (stateOf state) at (now (cells .entry)) n known (now (rates .entry)) (now (tasks .entry)) (now (aims .entry))
+        → Turned (now (s .entry)) at (readOf (now (row .entry))) r (now (cells .exit)) (now (rates .exit)) (now (tasks .exit)) (now (aims .exit))) ⌝ }
 {
-    let read = kept::item(s, memo, k, state, at);
-    let found = read.item;
-    laying::laid(s, cells, n, rates, tasks, aims, known, found);
-    let verdict = verdicts::item_rules(
+    if row[0] < 9 {
+        return declaration_step(s, cells, n, known, row);
+    }
+    let acted = acting::act(
         s,
         memo,
         k,
@@ -69,22 +92,19 @@ fn step<'a>(
         state,
         at,
         known,
-        found,
+        row,
     );
-    let Verdict::Fine = verdict else {
+    let broken = acted.verdict;
+    let Verdict::Fine = broken else {
         return Turn::Stop {
-            verdict: verdict,
+            verdict: broken,
             rows: n,
         };
     };
-    if targets::goes(found) {
-        let declaration = declaring::declared(s, cells, n, found);
-        let next = noting::noted(s, cells, n, known, found);
-        let rows = laying::entered(s, cells, n, declaration);
-        let behind = read.state;
+    if row[0] < 19 {
+        let rows = declaring::mode_entered(s, cells, n, row);
+        let next = acted.known;
         return Turn::On {
-            state: behind,
-            at: read.next,
             rows: rows,
             known: next,
         };
@@ -107,13 +127,28 @@ fn fold<'a>(
     requires { ⌜ Spread (now cells) (now rates) (now tasks) (now aims) ⌝ }
     ensures { λ r. ⌜ (Kept (now (s .entry)) (now (memo .entry)) → Answered (now (s .entry)) (r .verdict) (now (cells .exit)) (r .rows)) ⌝ }
 {
-    let mut state = State::Begin;
+    let mut row = [0usize; 16];
+    let mut state = 0;
     let mut at = 0;
     let mut n = 0;
     let mut known = noting::nothing();
     let mut k = 0;
     while at <= s.len() {
-        let turn = step(s, memo, k, cells, n, rates, tasks, aims, state, at, known);
+        kept::fetch(s, memo, k, state, at, &mut row);
+        let turn = step(
+            s,
+            memo,
+            k,
+            cells,
+            n,
+            rates,
+            tasks,
+            aims,
+            state,
+            at,
+            known,
+            &row,
+        );
         match turn {
             Turn::Stop {
                 verdict: answer,
@@ -124,19 +159,15 @@ fn fold<'a>(
                     rows: rows,
                 };
             }
-            Turn::On {
-                state: behind,
-                at: next,
-                rows,
-                known: more,
-            } => {
+            Turn::On { rows, known: more } => {
+                let next = row[4];
                 if next <= at {
                     return Outcome {
                         verdict: Verdict::Fine,
                         rows: rows,
                     };
                 }
-                state = behind;
+                state = row[3];
                 at = next;
                 n = rows;
                 known = more;

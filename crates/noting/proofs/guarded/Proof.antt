@@ -2,9 +2,6 @@ use borrow.Author.Needs.{needs}
 use Rattle.noting.proofs.guarded.Statement.{statement}
 use Rattle.noting.proofs.guarded.Tie as tie
 
-function-named-requires : tie.Need-function-named-requires
-function-named-requires c κs = search needs
-
 operand-type-requires : tie.Need-operand-type-requires
 operand-type-requires c κs = search needs
 
@@ -12,8 +9,7 @@ operands-of-requires : tie.Need-operands-of-requires
 operands-of-requires c κs = search needs
 
 returns : tie.Need-returns
-returns c = rw (c .operands-of .ensures, c .before .operand-type .ensures, c .before .before .function-named .ensures)
+returns c = rw (c .operands-of .ensures, c .before .operand-type .ensures)
 
 pub guarded-spec : {M : Type 1} → statement M
-guarded-spec =
-    tie.close (tie.spec function-named-requires operand-type-requires operands-of-requires returns)
+guarded-spec = tie.close (tie.spec operand-type-requires operands-of-requires returns)

@@ -1,6 +1,7 @@
 use Rattle.rules.specs.Meets.{pair-first}
-use Rattle.rules.proofs.verdicts.operand_wanted.Statement.{statement}
-use Rattle.rules.proofs.verdicts.operand_wanted.Tie as tie
+use borrow.Author.Needs.{needs}
+use Rattle.rules.proofs.acting.operand_wanted.Statement.{statement}
+use Rattle.rules.proofs.acting.operand_wanted.Tie as tie
 
 returns : tie.Need-returns
 returns c = rw (c .if1 .taken)

@@ -1,0 +1,24 @@
+use mathlib.Core.Path.{_∙_}
+use borrow.Author.Needs.{needs}
+use Rattle.rules.proofs.acting.switched.Statement.{statement}
+use Rattle.rules.proofs.acting.switched.Tie as tie
+
+state-of-requires : tie.Need-state-of-requires
+state-of-requires c κs = search needs
+
+is-mode-requires : tie.Need-is-mode-requires
+is-mode-requires c κs = search needs
+
+target-rules-requires : tie.Need-target-rules-requires
+target-rules-requires c κs = search needs
+
+switched-requires : tie.Need-switched-requires
+switched-requires c κs = search needs
+
+returns : tie.Need-returns
+returns c = (λ ix kept. c .before .target-rules .ensures ∙ rw (c .before .before .is-mode .ensures ix kept, c .before .before .before .state-of .ensures), c .switched .ensures)
+
+pub switched-spec : {M : Type 1} → statement M
+switched-spec =
+    tie.close
+    (tie.spec state-of-requires is-mode-requires target-rules-requires switched-requires returns)

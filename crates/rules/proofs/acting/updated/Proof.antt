@@ -1,0 +1,47 @@
+use mathlib.Core.Path.{_∙_}
+use borrow.Author.Needs.{needs}
+use Rattle.rules.proofs.acting.updated.Statement.{statement}
+use Rattle.rules.proofs.acting.updated.Tie as tie
+
+named-requires : tie.Need-named-requires
+named-requires c κs = search needs
+
+put-requires : tie.Need-put-requires
+put-requires c κs = search needs
+
+more-requires : tie.Need-more-requires
+more-requires c κs = search needs
+
+twice-requires : tie.Need-twice-requires
+twice-requires c κs = search needs
+
+update-rules-requires : tie.Need-update-rules-requires
+update-rules-requires c κs = search needs
+
+updated-requires : tie.Need-updated-requires
+updated-requires c κs = search needs
+
+same-length : tie.Need-same-length
+same-length c = search needs
+
+returns : tie.Need-returns
+returns c = (
+  (
+    λ ix. c .before .update-rules .ensures ix ∙ rw (c .before .before .before .twice .ensures, c .before .before .before .before .before .more .ensures, c .before .before .before .before .before .before .before .before .before .before .named .ensures ix),
+    c .updated .ensures,
+  ),
+  λ ix. c .before .before .before .before .before .before .before .before .put .ensures ∙ rw (c .before .before .before .before .before .before .before .before .before .before .named .ensures ix),
+)
+
+pub updated-spec : {M : Type 1} → statement M
+updated-spec =
+    tie.close
+    (tie.spec
+    named-requires
+    put-requires
+    more-requires
+    twice-requires
+    update-rules-requires
+    updated-requires
+    same-length
+    returns)
