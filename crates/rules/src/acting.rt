@@ -249,7 +249,7 @@ fn passed(known: Known) -> Acted
     }
 }
 
-// What item k breaks, and what is known behind it.
+// What item k breaks, and what is known behind it: a mode's begin, an activity, a guard, its operand, an invocation, its argument, an update, a switch, the ends, or a refusal.
 pub(crate) fn act<'a>(
     s: &'a [u8],
     memo: &'a [usize],

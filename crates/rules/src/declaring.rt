@@ -19,7 +19,7 @@ use names::Sought;
 use noting::laying;
 use refusals::Verdict;
 
-// What an item before the modes breaks; the last of their kinds is a task's end.
+// What an item before the modes breaks: the module's name, a section, a constant, a sensor, an actuator, a task's name, its input, its output, or its end.
 pub(crate) fn declaration_rules(s: &[u8], cells: &[usize], n: usize, row: &[usize; 16]) -> Verdict
     ensures { λ r. ⌜ (Indexed (now (s .entry)) (now (cells .entry)) → getD (now (row .entry)) 0 0 < 9 → (all : List Row) (env : Env) → rowsIn (now (cells .entry)) n ≡ env .rows → r ≡ first (rules (now (s .entry)) all env (itemOf (fieldsIn (now (row .entry)))))) ⌝ }
 {

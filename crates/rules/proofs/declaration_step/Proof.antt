@@ -1,10 +1,12 @@
 use denote.Ref.{now}
 use Rattle.kept.specs.Rows.{readOf}
+use Rattle.kept.specs.Kinds.{kind-goes}
+use native.Mathlib.Omega.{arith}
 use mathlib.Core.Path.{sym, ap, _∙_}
 use Rattle.refusals.specs.Checks.{isFine}
 use Rattle.noting.specs.Laying.{laid-nothing}
 use Rattle.noting.specs.Rowed.{rowed-index}
-use Rattle.rules.specs.Kinds.{declaration-goes, declaration-quiet, declaration-noted}
+use Rattle.rules.specs.Kinds.{declaration-quiet, declaration-noted}
 use Rattle.rules.specs.Going.{goes-out, goes-on}
 use borrow.Author.Needs.{needs}
 use Rattle.rules.proofs.declaration_step.Statement.{statement}
@@ -38,7 +40,7 @@ returns-2 c = λ h state at rates tasks aims p g.
     let ix = rowed-index (g .rowed) in
     let fine = sym (c .before .before .before .before .before .before .declaration-rules .ensures ix h _ _ (g .rowed .same)) ∙ c .before .before .before .before .enum-told .given .1 in
     let row = now (c .before .before .before .before .before .before .before .before .before .before .args .row) in
-    goes-on g (readOf row) p (laid-nothing _ _ _ rates tasks aims _ (declaration-quiet row h)) fine (declaration-goes row h) (c .before .before .entered .ensures ix h) (declaration-noted row _ _ _ h)
+    goes-on g (readOf row) p (laid-nothing _ _ _ rates tasks aims _ (declaration-quiet row h)) fine (kind-goes row (omega (arith, h))) (c .before .before .entered .ensures ix h) (declaration-noted row _ _ _ h)
 
 pub declaration-step-spec : {M : Type 1} → statement M
 declaration-step-spec =

@@ -2,7 +2,7 @@ use denote.Ref.{now}
 use mathlib.Core.Path.{sym, ap, _∙_}
 use Rattle.refusals.specs.Checks.{isFine}
 use Rattle.noting.specs.Rowed.{rowed-index}
-use Rattle.rules.specs.Kinds.{act-goes, act-stops}
+use Rattle.kept.specs.Kinds.{kind-goes, kind-stops}
 use Rattle.rules.specs.Going.{goes-out, goes-stop, goes-on}
 use native.Mathlib.Omega.{arith}
 use borrow.Author.Needs.{needs}
@@ -70,7 +70,7 @@ returns-3 c = λ kept p g.
     let later = c .before .before .before .before .before .before .before .before .before .before .before .before .before .before .before .before .before .before .before .before .if1 .left in
     let acts = c .before .before .before .before .before .before .before .before .before .before .before .before .before .before .before .act .ensures kept g p later in
     let fine = sym (acts .judged) ∙ c .before .before .before .before .before .before .before .enum-told .given .1 in
-    goes-on g _ p (acts .laid) fine (act-goes (now (c .before .before .before .before .before .before .before .before .before .before .before .before .before .before .before .before .before .before .before .before .before .before .before .before .before .before .before .before .args .row)) later (c .before .before .before .before .before .if2 .taken)) (c .before .before .before .mode-entered .ensures (rowed-index (g .rowed)) later) (acts .noted)
+    goes-on g _ p (acts .laid) fine (kind-goes (now (c .before .before .before .before .before .before .before .before .before .before .before .before .before .before .before .before .before .before .before .before .before .before .before .before .before .before .before .before .args .row)) (omega (arith, c .before .before .before .before .before .if2 .taken))) (c .before .before .before .mode-entered .ensures (rowed-index (g .rowed)) later) (acts .noted)
 
 same-length-10 : tie.Need-same-length-10
 same-length-10 c = search needs
@@ -88,7 +88,7 @@ returns-4 : tie.Need-returns-4
 returns-4 c = λ kept p g.
     let acts = c .before .before .before .before .before .before .before .before .before .before .act .ensures kept g p (c .before .before .before .before .before .before .before .before .before .before .before .before .before .before .before .if1 .left) in
     let fine = sym (acts .judged) ∙ c .before .before .enum-told .given .1 in
-    goes-stop g _ p fine (act-stops (now (c .before .before .before .before .before .before .before .before .before .before .before .before .before .before .before .before .before .before .before .before .before .before .before .args .row)) (c .if2 .left))
+    goes-stop g _ p fine (kind-stops (now (c .before .before .before .before .before .before .before .before .before .before .before .before .before .before .before .before .before .before .before .before .before .before .before .args .row)) (c .if2 .left))
 
 pub step-spec : {M : Type 1} → statement M
 step-spec =

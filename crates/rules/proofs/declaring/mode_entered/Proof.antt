@@ -29,7 +29,7 @@ returns : tie.Need-returns
 returns c = λ ix h. record { declaration = One (c .before .before .before .before .row-of .result); declared = rw (kind-mode (now (c .before .before .before .before .before .before .before .before .before .before .before .before .args .row)) (c .before .before .before .before .before .before .before .before .if1 .taken), c .before .before .before .before .row-of .ensures, c .before .before .before .before .before .before .before .first-name .ensures, c .before .before .before .before .before .count .ensures _ ix); entered = c .before .before .declare .ensures }
 
 returns-2 : tie.Need-returns-2
-returns-2 c = λ ix h. record { declaration = Nothing; declared = rw (act-declares (now (c .before .before .before .before .args .row)) h (c .if1 .left) _ _); entered = (refl, refl) }
+returns-2 c = λ ix h. record { declaration = Nothing; declared = rw (act-declares (now (c .before .before .before .before .args .row)) _ _ h (c .if1 .left)); entered = (refl, refl) }
 
 pub mode-entered-spec : {M : Type 1} → statement M
 mode-entered-spec =
