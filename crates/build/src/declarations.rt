@@ -6,9 +6,8 @@ ghost use Rattle.names.specs.Index.{Indexed};
 ghost use Rattle.ports.specs.Boards.{boardOf};
 ghost use Rattle.ports.specs.Placing.{noPorts};
 ghost use Rattle.build.specs.Walks.{boardRun};
-use super::turns;
+use super::rows;
 use ports::Ports;
-use text::State;
 
 fn nothing() -> Ports
     ensures { λ r. ⌜ r ≡ noPorts ⌝ }
@@ -43,22 +42,23 @@ pub fn declared<'a>(
 ) -> Ports
     ensures { λ r. ⌜ (Kept (now (s .entry)) (now (memo .entry)) → Indexed (now (s .entry)) (now (cells .entry)) → boardOf r (now (name .exit)) (now («sensor_names» .exit)) (now («actuator_names» .exit)) (now («task_names» .exit)) (now («output_names» .exit)) (now (roles .exit)) (now (types .exit)) (now (starts .exit)) (now («task_rows» .exit)) ≡ boardRun (now (s .entry)) (now (cells .entry)) 0 (itemsOf (now (s .entry))) (boardOf noPorts (now (name .entry)) (now («sensor_names» .entry)) (now («actuator_names» .entry)) (now («task_names» .entry)) (now («output_names» .entry)) (now (roles .entry)) (now (types .entry)) (now (starts .entry)) (now («task_rows» .entry)))) ⌝ }
 {
-    let mut state = State::Begin;
+    let mut row = [0usize; 16];
+    let mut state = 0;
     let mut at = 0;
     let mut n = 0;
     let mut k = 0;
     let mut ports = nothing();
     while at <= s.len() {
-        if ports::late(state) {
+        let reached = kept::state_of(state);
+        if ports::late(reached) {
             return ports;
         }
-        let read = kept::item(s, memo, k, state, at);
-        let found = read.item;
+        kept::fetch(s, memo, k, state, at, &mut row);
         ports = ports::placed(
             s,
             cells,
             n,
-            found,
+            &row,
             ports,
             name,
             sensor_names,
@@ -70,15 +70,13 @@ pub fn declared<'a>(
             starts,
             task_rows,
         );
-        let next = read.next;
-        if turns::over(found, at, next) {
+        if rows::over(&row, at) {
             return ports;
         }
-        n += turns::declaring(found);
+        n += rows::declaring(&row);
         k += 1;
-        let behind = read.state;
-        state = behind;
-        at = next;
+        state = row[3];
+        at = row[4];
     }
     ports
 }

@@ -4,4 +4,3 @@
 pub mod declarations;
 mod rows;
 pub mod schedules;
-mod turns;

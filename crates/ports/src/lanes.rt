@@ -1,12 +1,12 @@
 // The cells of one port: what it is, its type, what it holds at the beginning.
 ghost use mathlib.Core.Path.{_≡_};
+ghost use Rattle.kept.specs.Rows.{fieldsIn, itemOf};
 ghost use Rattle.names.specs.Tables.{rowsIn};
 ghost use Rattle.names.specs.Index.{Indexed};
 ghost use Rattle.refusals.specs.Values.{typeNamed, literalWord};
 ghost use Rattle.ports.specs.Boards.{word as wordOf, lanesOf};
 ghost use Rattle.ports.specs.Parts.{portPut, Makes};
 use super::rows;
-use text::Item;
 use text::Literal;
 use text::Name;
 
@@ -43,27 +43,25 @@ fn typed(s: &[u8], role: u32, typ: Name, start: u32) -> Made
     }
 }
 
-pub(super) fn port_of(s: &[u8], cells: &[usize], n: usize, item: Item) -> Made
-    ensures { λ r. ⌜ (Indexed (now (s .entry)) (now (cells .entry)) → Makes (now (s .entry)) (rowsIn (now (cells .entry)) n) item (r .role) (r .typ) (r .start)) ⌝ }
+pub(super) fn port_of(s: &[u8], cells: &[usize], n: usize, row: &[usize; 16]) -> Made
+    ensures { λ r. ⌜ (Indexed (now (s .entry)) (now (cells .entry)) → Makes (now (s .entry)) (rowsIn (now (cells .entry)) n) (itemOf (fieldsIn (now (row .entry)))) (r .role) (r .typ) (r .start)) ⌝ }
 {
-    match item {
-        Item::Sensor {
-            typ,
-            name: _,
-            getter: _,
-        } => typed(s, 1, typ, 0),
-        Item::Actuator {
-            typ,
-            name: _,
-            value,
-            setter: _,
-        } => typed(s, 2, typ, start_word(s, cells, n, value)),
-        Item::Input { typ, name: _ } => typed(s, 3, typ, 0),
-        Item::Output {
-            typ,
-            name: _,
-            value,
-        } => typed(s, 4, typ, start_word(s, cells, n, value)),
+    let kind = row[0];
+    match kind {
+        3 => typed(s, 1, kept::first_name(row), 0),
+        4 => typed(
+            s,
+            2,
+            kept::first_name(row),
+            start_word(s, cells, n, kept::second_value(row)),
+        ),
+        6 => typed(s, 3, kept::first_name(row), 0),
+        7 => typed(
+            s,
+            4,
+            kept::first_name(row),
+            start_word(s, cells, n, kept::second_value(row)),
+        ),
         _ => Made {
             role: 0,
             typ: 0,

@@ -3,12 +3,12 @@
 // Builds on what names and values mean, and on the layout of a table.
 ghost use mathlib.Core.Bool.{true};
 ghost use mathlib.Core.Path.{_≡_};
+ghost use Rattle.kept.specs.Rows.{fieldsIn, itemOf};
 ghost use Rattle.names.specs.Tables.{rowsIn};
 ghost use Rattle.names.specs.Index.{Indexed};
 ghost use Rattle.ports.specs.Boards.{boardOf, placedBy};
 ghost use Rattle.ports.specs.Parts.{Still};
 ghost use Rattle.ports.specs.Late.{late as lateOf};
-use text::Item;
 use text::State;
 
 mod counts;
@@ -31,31 +31,13 @@ pub struct Ports {
     pub outputs: u32,
 }
 
-// Whether an item puts nothing into the arrays.
-fn still(item: Item) -> bool
-    ensures { λ r. ⌜ (r ≡ true → Still item) ⌝ }
+// Whether the item of a row puts nothing into the arrays.
+fn still(row: &[usize; 16]) -> bool
+    ensures { λ r. ⌜ (r ≡ true → Still (itemOf (fieldsIn (now (row .entry))))) ⌝ }
 {
-    match item {
-        Item::Module(_) => false,
-        Item::Sensor {
-            typ: _,
-            name: _,
-            getter: _,
-        } => false,
-        Item::Actuator {
-            typ: _,
-            name: _,
-            value: _,
-            setter: _,
-        } => false,
-        Item::TaskBegin(_) => false,
-        Item::Input { typ: _, name: _ } => false,
-        Item::Output {
-            typ: _,
-            name: _,
-            value: _,
-        } => false,
-        Item::TaskEnd(_) => false,
+    let kind = row[0];
+    match kind {
+        0 | 3 | 4 | 5 | 6 | 7 | 8 => false,
         _ => true,
     }
 }
@@ -77,12 +59,12 @@ pub fn late(state: State) -> bool
     }
 }
 
-// An item put into the arrays, where the first n rows of the table of names stand before it.
+// The item of a row put into the arrays, where the first n rows of the table of names stand before it.
 pub fn placed(
     s: &[u8],
     cells: &[usize],
     n: usize,
-    item: Item,
+    row: &[usize; 16],
     ports: Ports,
     name: &mut [u8],
     sensor_names: &mut [u8],
@@ -94,16 +76,16 @@ pub fn placed(
     starts: &mut [u32],
     task_rows: &mut [u32],
 ) -> Ports
-    ensures { λ r. ⌜ (Indexed (now (s .entry)) (now (cells .entry)) → boardOf r (now (name .exit)) (now («sensor_names» .exit)) (now («actuator_names» .exit)) (now («task_names» .exit)) (now («output_names» .exit)) (now (roles .exit)) (now (types .exit)) (now (starts .exit)) (now («task_rows» .exit)) ≡ placedBy (now (s .entry)) (rowsIn (now (cells .entry)) n) item (boardOf ports (now (name .entry)) (now («sensor_names» .entry)) (now («actuator_names» .entry)) (now («task_names» .entry)) (now («output_names» .entry)) (now (roles .entry)) (now (types .entry)) (now (starts .entry)) (now («task_rows» .entry)))) ⌝ }
+    ensures { λ r. ⌜ (Indexed (now (s .entry)) (now (cells .entry)) → boardOf r (now (name .exit)) (now («sensor_names» .exit)) (now («actuator_names» .exit)) (now («task_names» .exit)) (now («output_names» .exit)) (now (roles .exit)) (now (types .exit)) (now (starts .exit)) (now («task_rows» .exit)) ≡ placedBy (now (s .entry)) (rowsIn (now (cells .entry)) n) (itemOf (fieldsIn (now (row .entry)))) (boardOf ports (now (name .entry)) (now («sensor_names» .entry)) (now («actuator_names» .entry)) (now («task_names» .entry)) (now («output_names» .entry)) (now (roles .entry)) (now (types .entry)) (now (starts .entry)) (now («task_rows» .entry)))) ⌝ }
 {
-    if still(item) {
+    if still(row) {
         return ports;
     }
-    let behind = counts::counted(item, ports);
-    let port = lanes::port_of(s, cells, n, item);
+    let behind = counts::counted(row, ports);
+    let port = lanes::port_of(s, cells, n, row);
     titles::titled(
         s,
-        item,
+        row,
         ports,
         name,
         sensor_names,
@@ -120,6 +102,6 @@ pub fn placed(
         types,
         starts,
     );
-    tasks::rowed(item, ports, task_rows);
+    tasks::rowed(row, ports, task_rows);
     behind
 }

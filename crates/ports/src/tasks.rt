@@ -1,10 +1,10 @@
 // The rows of tasks.
 ghost use mathlib.Core.Path.{_≡_};
+ghost use Rattle.kept.specs.Rows.{fieldsIn, itemOf};
 ghost use Rattle.ports.specs.Boards.{rowPut};
 ghost use Rattle.ports.specs.Parts.{rowsBy};
 use super::Ports;
 use super::rows;
-use text::Item;
 
 // The row of the task under way.
 fn task_row(ports: Ports, task_rows: &mut [u32])
@@ -19,11 +19,10 @@ fn task_row(ports: Ports, task_rows: &mut [u32])
 }
 
 // The end of a task puts its row.
-pub(super) fn rowed(item: Item, ports: Ports, task_rows: &mut [u32])
-    ensures { λ _. ⌜ now («task_rows» .exit) ≡ rowsBy item ports (now («task_rows» .entry)) ⌝ }
+pub(super) fn rowed(row: &[usize; 16], ports: Ports, task_rows: &mut [u32])
+    ensures { λ _. ⌜ now («task_rows» .exit) ≡ rowsBy (itemOf (fieldsIn (now (row .entry)))) ports (now («task_rows» .entry)) ⌝ }
 {
-    let Item::TaskEnd(_) = item else {
-        return;
-    };
-    task_row(ports, task_rows);
+    if row[0] == 8 {
+        task_row(ports, task_rows);
+    }
 }

@@ -1,10 +1,10 @@
 // The names of the module, of sensors, actuators, tasks and outputs.
 ghost use mathlib.Core.Path.{_≡_};
+ghost use Rattle.kept.specs.Rows.{fieldsIn, itemOf};
 ghost use Rattle.ports.specs.Boards.{namePut, namesPut, titlesOf};
 ghost use Rattle.ports.specs.Parts.{titlesBy};
 use super::Ports;
 use super::rows;
-use text::Item;
 use text::Name;
 
 // A name, to row k.
@@ -27,7 +27,7 @@ fn two(s: &[u8], k: u32, first: Name, second: Name, names: &mut [u8])
 // The names that an item declares.
 pub(super) fn titled(
     s: &[u8],
-    item: Item,
+    row: &[usize; 16],
     ports: Ports,
     title: &mut [u8],
     sensors: &mut [u8],
@@ -35,47 +35,34 @@ pub(super) fn titled(
     tasks: &mut [u8],
     outputs: &mut [u8],
 )
-    ensures { λ _. ⌜ titlesOf (now (title .exit)) (now (sensors .exit)) (now (actuators .exit)) (now (tasks .exit)) (now (outputs .exit)) ≡ titlesBy (now (s .entry)) item ports (titlesOf (now (title .entry)) (now (sensors .entry)) (now (actuators .entry)) (now (tasks .entry)) (now (outputs .entry))) ⌝ }
+    ensures { λ _. ⌜ titlesOf (now (title .exit)) (now (sensors .exit)) (now (actuators .exit)) (now (tasks .exit)) (now (outputs .exit)) ≡ titlesBy (now (s .entry)) (itemOf (fieldsIn (now (row .entry)))) ports (titlesOf (now (title .entry)) (now (sensors .entry)) (now (actuators .entry)) (now (tasks .entry)) (now (outputs .entry))) ⌝ }
 {
-    match item {
-        Item::Module(name) => {
-            rows::name_row(s, name, 0, title);
+    let kind = row[0];
+    match kind {
+        0 => {
+            rows::name_row(s, kept::first_name(row), 0, title);
             return;
         }
-        Item::Sensor {
-            typ: _,
-            name,
-            getter,
-        } => {
-            two(s, ports.sensors, name, getter, sensors);
+        3 => {
+            let name = kept::second_name(row);
+            two(s, ports.sensors, name, kept::third_name(row), sensors);
             return;
         }
-        Item::Actuator {
-            typ: _,
-            name,
-            value: _,
-            setter,
-        } => {
-            two(s, ports.actuators, name, setter, actuators);
+        4 => {
+            let name = kept::second_name(row);
+            two(s, ports.actuators, name, kept::last_name(row), actuators);
             return;
         }
-        Item::TaskBegin(name) => {
-            one(s, ports.labels, name, tasks);
+        5 => {
+            one(s, ports.labels, kept::first_name(row), tasks);
             return;
         }
-        Item::Input { typ: _, name: _ } => {
+        7 => {
+            one(s, ports.titles, kept::second_name(row), outputs);
             return;
         }
-        Item::Output {
-            typ: _,
-            name,
-            value: _,
-        } => {
-            one(s, ports.titles, name, outputs);
-            return;
-        }
-        Item::TaskEnd(function) => {
-            one(s, ports.labels, function, tasks);
+        8 => {
+            one(s, ports.labels, kept::first_name(row), tasks);
             return;
         }
         _ => {

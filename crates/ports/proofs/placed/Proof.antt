@@ -1,4 +1,6 @@
 use mathlib.Core.Path.{_∙_}
+use denote.Ref.{now}
+use Rattle.kept.specs.Rows.{fieldsIn, itemOf}
 use Rattle.ports.specs.BoardLaws.{boards}
 use Rattle.ports.specs.Parts.{parts}
 use borrow.Author.Needs.{needs}
@@ -54,7 +56,7 @@ same-length-9 : tie.Need-same-length-9
 same-length-9 c = search needs
 
 returns-2 : tie.Need-returns-2
-returns-2 c ix = boards (c .before .before .before .before .before .before .before .before .before .before .before .before .before .before .before .before .before .before .before .before .before .before .before .before .before .before .before .before .before .before .before .counted .ensures) (c .before .before .before .before .before .before .before .before .before .before .before .before .before .before .before .before .before .before .before .before .before .before .before .before .titled .ensures) (c .before .before .before .before .before .before .before .before .before .before .lane .ensures ∙ c .before .before .before .before .before .before .before .before .before .before .before .before .before .before .before .before .before .before .before .before .before .before .before .before .before .before .before .before .before .before .port-of .ensures ix .made _ _) (c .before .before .rowed .ensures) ∙ parts _ _ (c .before .before .before .before .before .before .before .before .before .before .before .before .before .before .before .before .before .before .before .before .before .before .before .before .before .before .before .before .before .before .before .before .before .before .before .before .before .before .before .before .before .before .before .before .before .args .item) _ _ _ _
+returns-2 c ix = boards (c .before .before .before .before .before .before .before .before .before .before .before .before .before .before .before .before .before .before .before .before .before .before .before .before .before .before .before .before .before .before .before .counted .ensures) (c .before .before .before .before .before .before .before .before .before .before .before .before .before .before .before .before .before .before .before .before .before .before .before .before .titled .ensures) (c .before .before .before .before .before .before .before .before .before .before .lane .ensures ∙ c .before .before .before .before .before .before .before .before .before .before .before .before .before .before .before .before .before .before .before .before .before .before .before .before .before .before .before .before .before .before .port-of .ensures ix .made _ _) (c .before .before .rowed .ensures) ∙ parts _ _ (itemOf (fieldsIn (now (c .before .before .before .before .before .before .before .before .before .before .before .before .before .before .before .before .before .before .before .before .before .before .before .before .before .before .before .before .before .before .before .before .before .before .before .before .before .before .before .before .before .before .before .before .before .args .row)))) _ _ _ _
 
 pub placed-spec : {M : Type 1} → statement M
 placed-spec =

@@ -1,4 +1,7 @@
+use native.Mathlib.Omega.{arith}
 use mathlib.Core.Path.{_∙_}
+use denote.Ref.{now}
+use Rattle.kept.specs.Kinds.{kind-task-end}
 use Rattle.ports.specs.Boards.{placedBy}
 use Rattle.ports.specs.Parts.{rowsBy}
 use Rattle.ports.proofs.Others.{rows-others}
@@ -6,11 +9,8 @@ use borrow.Author.Needs.{needs}
 use Rattle.ports.proofs.tasks.rowed.Statement.{statement}
 use Rattle.ports.proofs.tasks.rowed.Tie as tie
 
-enum-told : tie.Need-enum-told
-enum-told c = search needs
-
-returns : tie.Need-returns
-returns c = rows-others (c .before .before .args .item) _ _ (c .match .keys2)
+element-copy-out-if1 : tie.Need-element-copy-out-if1
+element-copy-out-if1 c = search needs
 
 task-row-requires : tie.Need-task-row-requires
 task-row-requires c κs = search needs
@@ -18,9 +18,13 @@ task-row-requires c κs = search needs
 same-length : tie.Need-same-length
 same-length c = search needs
 
-returns-2 : tie.Need-returns-2
+returns : tie.Need-returns
 unfolding placedBy rowsBy
-returns-2 c = c .before .before .task-row .ensures ∙ rw (c .before .before .before .before .enum-told .given .1)
+returns c = c .before .before .task-row .ensures ∙ rw (kind-task-end (now (c .before .before .before .before .before .before .before .args .row)) (c .before .before .before .before .if1 .taken))
+
+returns-2 : tie.Need-returns-2
+returns-2 c = rows-others (now (c .before .before .before .args .row)) _ _ (c .if1 .left)
 
 pub rowed-spec : {M : Type 1} → statement M
-rowed-spec = tie.close (tie.spec enum-told returns task-row-requires same-length returns-2)
+rowed-spec =
+    tie.close (tie.spec element-copy-out-if1 task-row-requires same-length returns returns-2)
