@@ -45,12 +45,14 @@ pub(super) fn titled(
         }
         3 => {
             let name = kept::second_name(row);
-            two(s, ports.sensors, name, kept::third_name(row), sensors);
+            let getter = kept::third_name(row);
+            two(s, ports.sensors, name, getter, sensors);
             return;
         }
         4 => {
             let name = kept::second_name(row);
-            two(s, ports.actuators, name, kept::last_name(row), actuators);
+            let setter = kept::last_name(row);
+            two(s, ports.actuators, name, setter, actuators);
             return;
         }
         5 => {
