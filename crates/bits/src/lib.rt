@@ -2,8 +2,16 @@
 // Promises: each function is the machine's own definition, for every task number: one of 64 and more is in no word and joins none.
 // Builds on the definitions of machine.
 ghost use mathlib.Core.Path.{_≡_};
+ghost use lib.ListN.{getD};
 ghost use Rattle.machine.specs.Words.{has as hasOf, joined, parted, lowestIn, countIn};
 ghost use Rattle.bits.specs.Found.{foundOf};
+
+// One of several words; past the last stands 0.
+pub fn word_at(words: &[u64], i: usize) -> u64
+    ensures { λ r. ⌜ r ≡ getD (now (words .entry)) i 0 ⌝ }
+{
+    if i < words.len() { words[i] } else { 0 }
+}
 
 pub fn has(word: u64, task: u32) -> bool
     ensures { λ r. ⌜ r ≡ hasOf word task ⌝ }

@@ -1,12 +1,16 @@
 -- What the code's records stand for: the machine's state is where it stands, with its ports and the results aside.
 use Prim.Native.Nat.{ℕ, _<_}
 use mathlib.Core.Path.{_≡_, refl, sym, ap, _∙_}
-use mathlib.Core.Bool.{Bool, true, false, cond, _&&_}
-use lib.Dec.{ltb}
+use mathlib.Core.Bool.{Bool, true, false, cond, _&&_, not}
+use lib.ListN.{getD}
+use lib.Dec.{ltb, eqb}
 use borrow.Author.Tests.{ltb-true}
 use mathlib.Core.List.{List, []}
 use Rattle.model.specs.Clock.{elapsed, Instant, early, due, missed, judged, fits}
+use Rattle.machine.specs.declared.Reaction.{Reaction}
 use Rattle.machine.specs.declared.Reaction.the-variants as R
+use Rattle.machine.specs.declared.Turn.{Turn}
+use Rattle.machine.specs.declared.Finishing.{Finishing}
 use Rattle.machine.specs.Boards.{Board}
 use Rattle.machine.specs.Instructions.{late, wild, astray, clash, Res, ok, bad, Halt, Run}
 use Rattle.machine.specs.Store.{Store, part, reaction}
@@ -18,9 +22,6 @@ use Rattle.steps.specs.declared.Ending.the-variants as E
 use Rattle.steps.specs.Rows.{boardBy, reactive}
 use Rattle.react.specs.Runs.{Shown, shownRes, shown}
 use Rattle.calls.specs.declared.Standing.{Standing}
-use Rattle.calls.specs.declared.Served.{Served}
-use Rattle.calls.specs.declared.Turned.{Turned}
-use Rattle.calls.specs.declared.Ended.{Ended}
 
 abbrev pub storeOf : Standing → List ℕ → Store
 storeOf at ports = record { ports = ports; out = at .out; waiting = at .waiting; finished = at .finished }
@@ -39,14 +40,38 @@ stateOf at ports aside =
       late = at .late;
     }
 
-abbrev pub served : Served → List ℕ → List ℕ → C.Ticked
-served r ports aside = record { answer = r .answer; state = stateOf (r .standing) ports aside }
+-- ---- the same in cells that are lent: numbers (clock, remaining, mode, pc, late), marks (stopped, fault) and sets (out, waiting, finished)
 
-abbrev pub turned : Turned → List ℕ → List ℕ → C.Handed
-turned r ports aside = record { answer = r .answer; state = stateOf (r .standing) ports aside }
+-- a mark that is not 0
+abbrev pub marked : List ℕ → Bool
+marked marks = not (eqb (getD marks 0 0) 0)
 
-abbrev pub ended : Ended → List ℕ → List ℕ → C.Finished
-ended r ports aside = record { answer = r .answer; state = stateOf (r .standing) ports aside }
+abbrev pub standingIn : List ℕ → List ℕ → List ℕ → Standing
+standingIn numbers marks sets =
+    record {
+      clock = getD numbers 0 0;
+      remaining = getD numbers 1 0;
+      mode = getD numbers 2 0;
+      pc = getD numbers 3 0;
+      out = getD sets 0 0;
+      waiting = getD sets 1 0;
+      finished = getD sets 2 0;
+      stopped = marked marks;
+      fault = getD marks 1 0;
+      late = getD numbers 4 0;
+    }
+
+abbrev pub stateBy : List ℕ → List ℕ → List ℕ → List ℕ → List ℕ → State
+stateBy numbers marks sets ports aside = stateOf (standingIn numbers marks sets) ports aside
+
+abbrev pub served : Reaction → State → C.Ticked
+served answer state = record { answer = answer; state = state }
+
+abbrev pub turned : Turn → State → C.Handed
+turned answer state = record { answer = answer; state = state }
+
+abbrev pub ended : Finishing → State → C.Finished
+ended answer state = record { answer = answer; state = state }
 
 -- ---- what a reaction's ending makes of a state
 

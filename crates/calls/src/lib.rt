@@ -1,15 +1,15 @@
-// The machine's calls, over arrays lent from a table and a machine, and the numbers that say where the machine stands.
+// The machine's calls, over arrays lent from a table and a machine. Where the machine stands is in three of them: numbers (the last accepted count,
+// what remains, the mode, where the next reaction begins, the late task), marks (not 0: stopped; the fault) and sets (the tasks out, waiting, finished).
 // Promises: each call is its definition, for every table and every state: the answer, where the machine then stands, the ports and the results aside.
 // Builds on the calls of machine, on react, bits and cells.
 ghost use mathlib.Core.Path.{_≡_};
 ghost use mathlib.Core.List.{List, []};
 ghost use Prim.Native.Nat.{ℕ};
 ghost use Rattle.model.specs.Clock.{fits as fitsOf};
-ghost use Rattle.machine.specs.declared.Reaction.the-variants.{Idle};
 ghost use Rattle.machine.specs.Store.{part};
 ghost use Rattle.machine.specs.Calls.{stoppedBy, idled, reacted, tick, nextTask, finish, atWork};
 ghost use Rattle.steps.specs.Rows.{boardBy, reactive};
-ghost use Rattle.calls.specs.States.{stateOf, served, turned, ended};
+ghost use Rattle.calls.specs.States.{marked, standingIn, stateBy, served, turned, ended};
 ghost use Rattle.calls.specs.Fitting.{fitsOne};
 use bits::Found;
 use cells::Instant;
@@ -33,20 +33,28 @@ pub struct Standing {
     pub late: u32,
 }
 
-// The answers of start and tick, of next task, and of finish, each with where the machine then stands.
-pub struct Served {
-    pub answer: Reaction,
-    pub standing: Standing,
+// Where a machine stands, as one record.
+pub fn standing_in<'a>(numbers: &'a [u32; 5], marks: &'a [u8; 2], sets: &'a [u64; 3]) -> Standing
+    ensures { λ r. ⌜ r ≡ standingIn (now (numbers .entry)) (now (marks .entry)) (now (sets .entry)) ⌝ }
+{
+    Standing {
+        clock: cells::at32(numbers, 0),
+        remaining: cells::at32(numbers, 1),
+        mode: cells::at32(numbers, 2),
+        pc: cells::at32(numbers, 3),
+        out: bits::word_at(sets, 0),
+        waiting: bits::word_at(sets, 1),
+        finished: bits::word_at(sets, 2),
+        stopped: is_stopped(marks),
+        fault: cells::at8(marks, 1),
+        late: cells::at32(numbers, 4),
+    }
 }
 
-pub struct Turned {
-    pub answer: Turn,
-    pub standing: Standing,
-}
-
-pub struct Ended {
-    pub answer: Finishing,
-    pub standing: Standing,
+fn is_stopped(marks: &[u8; 2]) -> bool
+    ensures { λ r. ⌜ r ≡ marked (now (marks .entry)) ⌝ }
+{
+    cells::at8(marks, 0) != 0
 }
 
 // ---- values handed in
@@ -97,34 +105,43 @@ pub fn fits<'a, 'b>(
 
 // ---- start and tick
 
-fn stop(at: Standing, fault: u8, task: u32) -> Standing
-    ensures { λ r. ⌜ ((ports aside : List ℕ) → stateOf r ports aside ≡ stoppedBy fault task (stateOf at ports aside)) ⌝ }
+fn stop(numbers: &mut [u32; 5], marks: &mut [u8; 2], fault: u8, task: u32)
+    ensures { λ _. ⌜ ((sets ports aside : List ℕ) → stateBy (now (numbers .exit)) (now (marks .exit)) sets ports aside ≡ stoppedBy fault task (stateBy (now (numbers .entry)) (now (marks .entry)) sets ports aside)) ⌝ }
 {
-    let mut on = at;
-    on.stopped = true;
-    on.fault = fault;
-    on.late = task;
-    on
+    let clock = cells::at32(numbers, 0);
+    let remaining = cells::at32(numbers, 1);
+    let mode = cells::at32(numbers, 2);
+    let pc = cells::at32(numbers, 3);
+    *numbers = [clock, remaining, mode, pc, task];
+    *marks = [1, fault];
 }
 
 // Sensors take the readings, then one reaction. A fault stops the machine, all else as before the call.
 pub fn react_on<'a, 'b>(
     instructions: u32,
-    code: &'a [u32],
-    drivers: &'a [u32],
-    guards: &'a [u32],
-    modes: &'a [u32],
-    tasks: &'a [u32],
+    code: &'a [u32; 12288],
+    drivers: &'a [u32; 3456],
+    guards: &'a [u32; 1536],
+    modes: &'a [u32; 24],
+    tasks: &'a [u32; 128],
     aside: &'a [u32; 256],
     ports: &mut [u32; 320],
-    at: Standing,
+    numbers: &mut [u32; 5],
+    marks: &mut [u8; 2],
+    sets: &mut [u64; 3],
     count: u32,
     words: &'b [u32],
-) -> Served
-    ensures { λ r. ⌜ served r (now (ports .exit)) (now (aside .entry))
+) -> Reaction
+    ensures { λ r. ⌜ served r (stateBy (now (numbers .exit)) (now (marks .exit)) (now (sets .exit)) (now (ports .exit)) (now (aside .entry)))
         ≡ reacted (reactive instructions (now (code .entry)) (now (drivers .entry)) (now (guards .entry)) (now (modes .entry)) (now (tasks .entry)))
-        (stateOf at (now (ports .entry)) (now (aside .entry))) count (now (words .entry)) ⌝ }
+        (stateBy (now (numbers .entry)) (now (marks .entry)) (now (sets .entry)) (now (ports .entry)) (now (aside .entry))) count (now (words .entry)) ⌝ }
 {
+    let mode = cells::at32(numbers, 2);
+    let pc = cells::at32(numbers, 3);
+    let late = cells::at32(numbers, 4);
+    let out = bits::word_at(sets, 0);
+    let waiting = bits::word_at(sets, 1);
+    let finished = bits::word_at(sets, 2);
     let ran = react::react(
         instructions,
         code,
@@ -135,88 +152,77 @@ pub fn react_on<'a, 'b>(
         aside,
         words,
         ports,
-        at.mode,
-        at.pc,
-        at.out,
-        at.waiting,
-        at.finished,
+        mode,
+        pc,
+        out,
+        waiting,
+        finished,
     );
     let ending = ran.ending;
     match ending {
         Ending::Returned(halted) => {
-            let mut on = at;
-            on.clock = count;
-            on.remaining = halted.delay;
-            on.mode = halted.mode;
-            on.pc = halted.next;
-            on.out = halted.out;
-            on.waiting = halted.waiting;
-            on.finished = halted.finished;
-            Served {
-                answer: Reaction::Obeyed(ran.steps),
-                standing: on,
-            }
+            *numbers = [count, halted.delay, halted.mode, halted.next, late];
+            *sets = [halted.out, halted.waiting, halted.finished];
+            Reaction::Obeyed(ran.steps)
         }
-        Ending::Late(task) => Served {
-            answer: Reaction::Late(task),
-            standing: stop(at, 40, task),
-        },
-        Ending::Fault(number) => Served {
-            answer: Reaction::Fault(number),
-            standing: stop(at, number, 0),
-        },
+        Ending::Late(task) => {
+            stop(numbers, marks, 40, task);
+            Reaction::Late(task)
+        }
+        Ending::Fault(number) => {
+            stop(numbers, marks, number, 0);
+            Reaction::Fault(number)
+        }
     }
 }
 
 // The count is accepted, and less remains.
-fn idle(at: Standing, count: u32, left: u32) -> Served
-    ensures { λ r. ⌜ ((ports aside : List ℕ) → served r ports aside ≡ record { answer = Idle; state = idled (stateOf at ports aside) count left }) ⌝ }
+fn idle(numbers: &mut [u32; 5], count: u32, left: u32)
+    ensures { λ _. ⌜ ((marks sets ports aside : List ℕ) → stateBy (now (numbers .exit)) marks sets ports aside ≡ idled (stateBy (now (numbers .entry)) marks sets ports aside) count left) ⌝ }
 {
-    let mut on = at;
-    on.clock = count;
-    on.remaining = left;
-    Served {
-        answer: Reaction::Idle,
-        standing: on,
-    }
+    let mode = cells::at32(numbers, 2);
+    let pc = cells::at32(numbers, 3);
+    let late = cells::at32(numbers, 4);
+    *numbers = [count, left, mode, pc, late];
 }
 
 // Tick: 31 machine stopped; 32 readings of wrong count or type; 33 instant missed. Less than what remains: idle. Equal: one reaction.
 pub fn tick_on<'a, 'b>(
     instructions: u32,
-    code: &'a [u32],
-    drivers: &'a [u32],
-    guards: &'a [u32],
-    modes: &'a [u32],
-    tasks: &'a [u32],
-    wanted: &'a [u32],
+    code: &'a [u32; 12288],
+    drivers: &'a [u32; 3456],
+    guards: &'a [u32; 1536],
+    modes: &'a [u32; 24],
+    tasks: &'a [u32; 128],
+    wanted: &'a [u32; 320],
     sensors: u32,
     aside: &'a [u32; 256],
     ports: &mut [u32; 320],
-    at: Standing,
+    numbers: &mut [u32; 5],
+    marks: &mut [u8; 2],
+    sets: &mut [u64; 3],
     count: u32,
     types: &'b [u32],
     words: &'b [u32],
-) -> Served
-    ensures { λ r. ⌜ served r (now (ports .exit)) (now (aside .entry))
+) -> Reaction
+    ensures { λ r. ⌜ served r (stateBy (now (numbers .exit)) (now (marks .exit)) (now (sets .exit)) (now (ports .exit)) (now (aside .entry)))
         ≡ tick (boardBy instructions (now (code .entry)) (now (drivers .entry)) (now (guards .entry)) (now (modes .entry)) (now (tasks .entry)) (now (wanted .entry)) [] sensors 0)
-        (stateOf at (now (ports .entry)) (now (aside .entry))) count (now (types .entry)) (now (words .entry)) ⌝ }
+        (stateBy (now (numbers .entry)) (now (marks .entry)) (now (sets .entry)) (now (ports .entry)) (now (aside .entry))) count (now (types .entry)) (now (words .entry)) ⌝ }
 {
-    if at.stopped {
-        return Served {
-            answer: Reaction::Refused(31),
-            standing: at,
-        };
+    if is_stopped(marks) {
+        return Reaction::Refused(31);
     }
     if !fits(wanted, 0, sensors, types, words) {
-        return Served {
-            answer: Reaction::Refused(32),
-            standing: at,
-        };
+        return Reaction::Refused(32);
     }
-    let instant = cells::judge(at.clock, at.remaining, count);
+    let clock = cells::at32(numbers, 0);
+    let remaining = cells::at32(numbers, 1);
+    let instant = cells::judge(clock, remaining, count);
     match instant {
-        Instant::Early(left) => idle(at, count, left),
+        Instant::Early(left) => {
+            idle(numbers, count, left);
+            Reaction::Idle
+        }
         Instant::Due => react_on(
             instructions,
             code,
@@ -226,42 +232,36 @@ pub fn tick_on<'a, 'b>(
             tasks,
             aside,
             ports,
-            at,
+            numbers,
+            marks,
+            sets,
             count,
             words,
         ),
-        Instant::Missed => Served {
-            answer: Reaction::Refused(33),
-            standing: at,
-        },
+        Instant::Missed => Reaction::Refused(33),
     }
 }
 
 // ---- next task: the lowest-numbered one released and not yet handed out, or none
 
-pub fn next_on(at: Standing) -> Turned
-    ensures { λ r. ⌜ ((ports aside : List ℕ) → turned r ports aside ≡ nextTask (stateOf at ports aside)) ⌝ }
+pub fn next_on(marks: &[u8; 2], sets: &mut [u64; 3]) -> Turn
+    ensures { λ r. ⌜ ((numbers ports aside : List ℕ) → turned r (stateBy numbers (now (marks .entry)) (now (sets .exit)) ports aside)
+        ≡ nextTask (stateBy numbers (now (marks .entry)) (now (sets .entry)) ports aside)) ⌝ }
 {
-    if at.stopped {
-        return Turned {
-            answer: Turn::Refused(31),
-            standing: at,
-        };
+    if is_stopped(marks) {
+        return Turn::Refused(31);
     }
-    let found = bits::lowest(at.waiting);
+    let out = bits::word_at(sets, 0);
+    let waiting = bits::word_at(sets, 1);
+    let finished = bits::word_at(sets, 2);
+    let found = bits::lowest(waiting);
     match found {
         Found::Task(task) => {
-            let mut on = at;
-            on.waiting = bits::part(at.waiting, task);
-            Turned {
-                answer: Turn::Task(task),
-                standing: on,
-            }
+            let others = bits::part(waiting, task);
+            *sets = [out, others, finished];
+            Turn::Task(task)
         }
-        Found::Nobody => Turned {
-            answer: Turn::Nobody,
-            standing: at,
-        },
+        Found::Nobody => Turn::Nobody,
     }
 }
 
@@ -284,42 +284,35 @@ fn at_work(out: u64, waiting: u64, finished: u64, task: u32) -> bool
 
 // The results go aside and nowhere else.
 pub fn finish_on<'a, 'b>(
-    tasks: &'a [u32],
-    wanted: &'a [u32],
+    tasks: &'a [u32; 128],
+    wanted: &'a [u32; 320],
     aside: &mut [u32; 256],
-    at: Standing,
+    marks: &'a [u8; 2],
+    sets: &mut [u64; 3],
     task: u32,
     types: &'b [u32],
     words: &'b [u32],
-) -> Ended
-    ensures { λ r. ⌜ ((ports : List ℕ) → ended r ports (now (aside .exit))
-        ≡ finish (boardBy 0 [] [] [] [] (now (tasks .entry)) (now (wanted .entry)) [] 0 0) (stateOf at ports (now (aside .entry))) task (now (types .entry)) (now (words .entry))) ⌝ }
+) -> Finishing
+    ensures { λ r. ⌜ ((numbers ports : List ℕ) → ended r (stateBy numbers (now (marks .entry)) (now (sets .exit)) ports (now (aside .exit)))
+        ≡ finish (boardBy 0 [] [] [] [] (now (tasks .entry)) (now (wanted .entry)) [] 0 0) (stateBy numbers (now (marks .entry)) (now (sets .entry)) ports (now (aside .entry)))
+        task (now (types .entry)) (now (words .entry))) ⌝ }
 {
-    if at.stopped {
-        return Ended {
-            answer: Finishing::Refused(31),
-            standing: at,
-        };
+    if is_stopped(marks) {
+        return Finishing::Refused(31);
     }
-    if !at_work(at.out, at.waiting, at.finished, task) {
-        return Ended {
-            answer: Finishing::Refused(34),
-            standing: at,
-        };
+    let out = bits::word_at(sets, 0);
+    let waiting = bits::word_at(sets, 1);
+    let finished = bits::word_at(sets, 2);
+    if !at_work(out, waiting, finished, task) {
+        return Finishing::Refused(34);
     }
     let from = steps::task_cell(tasks, task, 2);
     let count = steps::task_cell(tasks, task, 3);
     if !fits(wanted, from, count, types, words) {
-        return Ended {
-            answer: Finishing::Refused(35),
-            standing: at,
-        };
+        return Finishing::Refused(35);
     }
     steps::place(words, task * 8, aside);
-    let mut on = at;
-    on.finished = bits::join(at.finished, task);
-    Ended {
-        answer: Finishing::Taken,
-        standing: on,
-    }
+    let joined = bits::join(finished, task);
+    *sets = [out, waiting, joined];
+    Finishing::Taken
 }

@@ -5,7 +5,7 @@ ghost use mathlib.Core.Path.{_≡_};
 ghost use Rattle.machine.specs.Calls.{tick as tickOf, nextTask, finish as finishOf, look as lookOf, tasksOut};
 ghost use Rattle.machine.specs.declared.Reaction.the-variants.{Refused};
 ghost use Rattle.machine.specs.Starts.{startOn, noMachine};
-ghost use Rattle.emachine.specs.Machines.{boardIn, startBy, stateIn, machineOf, tickedOn, handedOn, finishedOn};
+ghost use Rattle.emachine.specs.Machines.{boardIn, startBy, stateIn, machineOf, markOf, tickedOn, handedOn, finishedOn};
 use calls::Standing;
 use machine::Finishing;
 use machine::Reaction;
@@ -35,13 +35,22 @@ pub struct Finished {
     pub machine: Machine,
 }
 
+fn mark(stopped: bool) -> u8
+    ensures { λ r. ⌜ r ≡ markOf stopped ⌝ }
+{
+    if stopped { 1 } else { 0 }
+}
+
 // A tick at a count, with the types and words of the readings.
 pub fn tick<'b>(m: Machine, count: u32, types: &'b [u32], words: &'b [u32]) -> Ticked
     ensures { λ r. ⌜ r ≡ tickedOn (m .table) (tickOf (boardIn (m .table)) (stateIn m) count (now (types .entry)) (now (words .entry))) ⌝ }
 {
     let at = m.standing;
+    let mut numbers = [at.clock, at.remaining, at.mode, at.pc, at.late];
+    let mut marks = [mark(at.stopped), at.fault];
+    let mut sets = [at.out, at.waiting, at.finished];
     let mut ports = m.ports;
-    let served = calls::tick_on(
+    let answer = calls::tick_on(
         m.table.instructions,
         &m.table.code,
         &m.table.driver_rows,
@@ -52,13 +61,14 @@ pub fn tick<'b>(m: Machine, count: u32, types: &'b [u32], words: &'b [u32]) -> T
         m.table.sensors,
         &m.aside,
         &mut ports,
-        at,
+        &mut numbers,
+        &mut marks,
+        &mut sets,
         count,
         types,
         words,
     );
-    let answer = served.answer;
-    let standing = served.standing;
+    let standing = calls::standing_in(&numbers, &marks, &sets);
     let mut machine = m;
     machine.standing = standing;
     machine.ports = ports;
@@ -73,9 +83,11 @@ pub fn next_task(m: Machine) -> Handed
     ensures { λ r. ⌜ r ≡ handedOn (m .table) (nextTask (stateIn m)) ⌝ }
 {
     let at = m.standing;
-    let turned = calls::next_on(at);
-    let answer = turned.answer;
-    let standing = turned.standing;
+    let numbers = [at.clock, at.remaining, at.mode, at.pc, at.late];
+    let marks = [mark(at.stopped), at.fault];
+    let mut sets = [at.out, at.waiting, at.finished];
+    let answer = calls::next_on(&marks, &mut sets);
+    let standing = calls::standing_in(&numbers, &marks, &sets);
     let mut machine = m;
     machine.standing = standing;
     Handed {
@@ -89,18 +101,21 @@ pub fn finish<'b>(m: Machine, task: u32, types: &'b [u32], words: &'b [u32]) -> 
     ensures { λ r. ⌜ r ≡ finishedOn (m .table) (finishOf (boardIn (m .table)) (stateIn m) task (now (types .entry)) (now (words .entry))) ⌝ }
 {
     let at = m.standing;
+    let numbers = [at.clock, at.remaining, at.mode, at.pc, at.late];
+    let marks = [mark(at.stopped), at.fault];
+    let mut sets = [at.out, at.waiting, at.finished];
     let mut aside = m.aside;
-    let ended = calls::finish_on(
+    let answer = calls::finish_on(
         &m.table.task_rows,
         &m.table.types,
         &mut aside,
-        at,
+        &marks,
+        &mut sets,
         task,
         types,
         words,
     );
-    let answer = ended.answer;
-    let standing = ended.standing;
+    let standing = calls::standing_in(&numbers, &marks, &sets);
     let mut machine = m;
     machine.standing = standing;
     machine.aside = aside;
@@ -187,21 +202,12 @@ pub fn start_on<'b>(
     }
     let mode = start_mode(&table.mode_rows, table.modes);
     let pc = steps::begin_of(&table.mode_rows, mode);
-    let at = Standing {
-        clock: count,
-        remaining: 0,
-        mode: mode,
-        pc: pc,
-        out: 0,
-        waiting: 0,
-        finished: 0,
-        stopped: false,
-        fault: 0,
-        late: 0,
-    };
+    let mut numbers = [count, 0, mode, pc, 0];
+    let mut marks = [0u8, 0];
+    let mut sets = [0u64, 0, 0];
     let mut ports = table.starts;
     let aside = [0u32; 256];
-    let served = calls::react_on(
+    let answer = calls::react_on(
         table.instructions,
         &table.code,
         &table.driver_rows,
@@ -210,12 +216,13 @@ pub fn start_on<'b>(
         &table.task_rows,
         &aside,
         &mut ports,
-        at,
+        &mut numbers,
+        &mut marks,
+        &mut sets,
         count,
         words,
     );
-    let answer = served.answer;
-    let standing = served.standing;
+    let standing = calls::standing_in(&numbers, &marks, &sets);
     Ticked {
         answer: answer,
         machine: Machine {

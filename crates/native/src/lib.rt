@@ -1,4 +1,5 @@
-// The toolchain's face to a host program in C or Rust: compile, read, tick, next task and finish over numbers and lent arrays.
+// The toolchain's face to a host program in C or Rust: compile, read, tick, next task and finish over numbers and lent arrays. Where a machine stands is
+// in three of them (crate calls): numbers, marks and sets.
 // Promises: each is the definition of its call, its answer as document 01's numbers; what each lent array then holds is settled, after a refusal too.
 // Builds on tdl, ecode and calls, and for the machine as one record on emachine.
 ghost use mathlib.Core.Path.{_≡_};
@@ -13,8 +14,8 @@ ghost use Rattle.prescribed.specs.Answers.{answered, buffered};
 ghost use Rattle.prescribed.specs.Compiles.{compileOf};
 ghost use Rattle.reading.specs.Readings.{readingOf, tableIn};
 ghost use Rattle.steps.specs.Rows.{boardBy};
-ghost use Rattle.calls.specs.States.{stateOf};
-ghost use Rattle.native.specs.Faces.{translation, countsIn, heldOf, standingOf, faceOf, tickFace, turnFace, finishFace};
+ghost use Rattle.calls.specs.States.{stateBy};
+ghost use Rattle.native.specs.Faces.{translation, countsIn, heldOf, faceOf, tickFace, turnFace, finishFace};
 ghost use Rattle.native.specs.Copies.{isRead, ticksFrom, ticksOf};
 use calls::Standing;
 use emachine::Machine;
@@ -31,7 +32,7 @@ pub struct Translation {
     pub place: usize,
 }
 
-// Where a machine stands, held by the host from call to call.
+// Where a machine stands, as one record.
 #[repr(C)]
 pub struct Held {
     pub clock: u32,
@@ -46,14 +47,12 @@ pub struct Held {
     pub late: u32,
 }
 
-// The answer of a machine's call: the number of a refusal or a fault, or 0; the instructions obeyed; the task that is named, or 4294967295;
-// and where the machine then stands.
+// The answer of a machine's call: the number of a refusal or a fault, or 0; the instructions obeyed; the task that is named, or 4294967295.
 #[repr(C)]
 pub struct Face {
     pub number: u8,
     pub instructions: u32,
     pub task: u32,
-    pub held: Held,
 }
 
 // ---- the compiler
@@ -140,22 +139,128 @@ pub extern "C" fn native_read(
 
 // ---- the machine, over arrays of the host
 
-fn standing(held: Held) -> Standing
-    ensures { λ r. ⌜ r ≡ standingOf held ⌝ }
+fn told(number: u8, instructions: u32, task: u32) -> Face
+    ensures { λ r. ⌜ r ≡ record { number = number; instructions = instructions; task = task } ⌝ }
 {
-    Standing {
-        clock: held.clock,
-        remaining: held.remaining,
-        mode: held.mode,
-        pc: held.pc,
-        out: held.out,
-        waiting: held.waiting,
-        finished: held.finished,
-        stopped: held.stopped,
-        fault: held.fault,
-        late: held.late,
+    Face {
+        number: number,
+        instructions: instructions,
+        task: task,
     }
 }
+
+fn tick_face(answer: Reaction) -> Face
+    ensures { λ r. ⌜ r ≡ faceOf (reactionMeans answer) ⌝ }
+{
+    match answer {
+        Reaction::Obeyed(instructions) => told(0, instructions, 4294967295),
+        Reaction::Idle => told(0, 0, 4294967295),
+        Reaction::Refused(number) => told(number, 0, 4294967295),
+        Reaction::Late(task) => told(40, 0, task),
+        Reaction::Fault(number) => told(number, 0, 4294967295),
+    }
+}
+
+fn turn_face(answer: Turn) -> Face
+    ensures { λ r. ⌜ r ≡ faceOf (turnMeans answer) ⌝ }
+{
+    match answer {
+        Turn::Task(task) => told(0, 0, task),
+        Turn::Nobody => told(0, 0, 4294967295),
+        Turn::Refused(number) => told(number, 0, 4294967295),
+    }
+}
+
+fn finish_face(answer: Finishing) -> Face
+    ensures { λ r. ⌜ r ≡ faceOf (finishingMeans answer) ⌝ }
+{
+    match answer {
+        Finishing::Taken => told(0, 0, 4294967295),
+        Finishing::Refused(number) => told(number, 0, 4294967295),
+    }
+}
+
+// A tick at a count, with the types and words of the readings.
+#[no_mangle]
+pub extern "C" fn native_tick<'a, 'b>(
+    instructions: u32,
+    code: &'a [u32; 12288],
+    drivers: &'a [u32; 3456],
+    guards: &'a [u32; 1536],
+    modes: &'a [u32; 24],
+    tasks: &'a [u32; 128],
+    wanted: &'a [u32; 320],
+    sensors: u32,
+    aside: &'a [u32; 256],
+    ports: &mut [u32; 320],
+    numbers: &mut [u32; 5],
+    marks: &mut [u8; 2],
+    sets: &mut [u64; 3],
+    count: u32,
+    types: &'b [u32],
+    words: &'b [u32],
+) -> Face
+    ensures answer { λ r. ⌜ r ≡ tickFace (tick (boardBy instructions (now (code .entry)) (now (drivers .entry)) (now (guards .entry)) (now (modes .entry)) (now (tasks .entry)) (now (wanted .entry)) [] sensors 0)
+        (stateBy (now (numbers .entry)) (now (marks .entry)) (now (sets .entry)) (now (ports .entry)) (now (aside .entry))) count (now (types .entry)) (now (words .entry))) ⌝ }
+    ensures state { λ _. ⌜ stateBy (now (numbers .exit)) (now (marks .exit)) (now (sets .exit)) (now (ports .exit)) (now (aside .entry))
+        ≡ tick (boardBy instructions (now (code .entry)) (now (drivers .entry)) (now (guards .entry)) (now (modes .entry)) (now (tasks .entry)) (now (wanted .entry)) [] sensors 0)
+        (stateBy (now (numbers .entry)) (now (marks .entry)) (now (sets .entry)) (now (ports .entry)) (now (aside .entry))) count (now (types .entry)) (now (words .entry)) .state ⌝ }
+{
+    let answer = calls::tick_on(
+        instructions,
+        code,
+        drivers,
+        guards,
+        modes,
+        tasks,
+        wanted,
+        sensors,
+        aside,
+        ports,
+        numbers,
+        marks,
+        sets,
+        count,
+        types,
+        words,
+    );
+    tick_face(answer)
+}
+
+// The next task to run.
+#[no_mangle]
+pub extern "C" fn native_next(marks: &[u8; 2], sets: &mut [u64; 3]) -> Face
+    ensures answer { λ r. ⌜ ((numbers ports aside : List ℕ) → r ≡ turnFace (nextTask (stateBy numbers (now (marks .entry)) (now (sets .entry)) ports aside))) ⌝ }
+    ensures state { λ _. ⌜ ((numbers ports aside : List ℕ) → stateBy numbers (now (marks .entry)) (now (sets .exit)) ports aside
+        ≡ nextTask (stateBy numbers (now (marks .entry)) (now (sets .entry)) ports aside) .state) ⌝ }
+{
+    let answer = calls::next_on(marks, sets);
+    turn_face(answer)
+}
+
+// A task is finished, with the types and words of its results, which go aside.
+#[no_mangle]
+pub extern "C" fn native_finish<'a, 'b>(
+    tasks: &'a [u32; 128],
+    wanted: &'a [u32; 320],
+    aside: &mut [u32; 256],
+    marks: &'a [u8; 2],
+    sets: &mut [u64; 3],
+    task: u32,
+    types: &'b [u32],
+    words: &'b [u32],
+) -> Face
+    ensures answer { λ r. ⌜ ((numbers ports : List ℕ) → r ≡ finishFace (finish (boardBy 0 [] [] [] [] (now (tasks .entry)) (now (wanted .entry)) [] 0 0)
+        (stateBy numbers (now (marks .entry)) (now (sets .entry)) ports (now (aside .entry))) task (now (types .entry)) (now (words .entry)))) ⌝ }
+    ensures state { λ _. ⌜ ((numbers ports : List ℕ) → stateBy numbers (now (marks .entry)) (now (sets .exit)) ports (now (aside .exit))
+        ≡ finish (boardBy 0 [] [] [] [] (now (tasks .entry)) (now (wanted .entry)) [] 0 0)
+        (stateBy numbers (now (marks .entry)) (now (sets .entry)) ports (now (aside .entry))) task (now (types .entry)) (now (words .entry)) .state) ⌝ }
+{
+    let answer = calls::finish_on(tasks, wanted, aside, marks, sets, task, types, words);
+    finish_face(answer)
+}
+
+// ---- the machine as one record, handed on by value
 
 fn hold(at: Standing) -> Held
     ensures { λ r. ⌜ r ≡ heldOf at ⌝ }
@@ -173,131 +278,6 @@ fn hold(at: Standing) -> Held
         late: at.late,
     }
 }
-
-fn told(number: u8, instructions: u32, task: u32, at: Standing) -> Face
-    ensures { λ r. ⌜ r ≡ record { number = number; instructions = instructions; task = task; held = heldOf at } ⌝ }
-{
-    let held = hold(at);
-    Face {
-        number: number,
-        instructions: instructions,
-        task: task,
-        held: held,
-    }
-}
-
-fn tick_face(answer: Reaction, at: Standing) -> Face
-    ensures { λ r. ⌜ r ≡ faceOf (reactionMeans answer) (heldOf at) ⌝ }
-{
-    match answer {
-        Reaction::Obeyed(instructions) => told(0, instructions, 4294967295, at),
-        Reaction::Idle => told(0, 0, 4294967295, at),
-        Reaction::Refused(number) => told(number, 0, 4294967295, at),
-        Reaction::Late(task) => told(40, 0, task, at),
-        Reaction::Fault(number) => told(number, 0, 4294967295, at),
-    }
-}
-
-fn turn_face(answer: Turn, at: Standing) -> Face
-    ensures { λ r. ⌜ r ≡ faceOf (turnMeans answer) (heldOf at) ⌝ }
-{
-    match answer {
-        Turn::Task(task) => told(0, 0, task, at),
-        Turn::Nobody => told(0, 0, 4294967295, at),
-        Turn::Refused(number) => told(number, 0, 4294967295, at),
-    }
-}
-
-fn finish_face(answer: Finishing, at: Standing) -> Face
-    ensures { λ r. ⌜ r ≡ faceOf (finishingMeans answer) (heldOf at) ⌝ }
-{
-    match answer {
-        Finishing::Taken => told(0, 0, 4294967295, at),
-        Finishing::Refused(number) => told(number, 0, 4294967295, at),
-    }
-}
-
-// A tick at a count, with the types and words of the readings.
-#[no_mangle]
-pub extern "C" fn native_tick<'a, 'b>(
-    instructions: u32,
-    code: &'a [u32; 12288],
-    drivers: &'a [u32; 3456],
-    guards: &'a [u32; 1536],
-    modes: &'a [u32; 24],
-    tasks: &'a [u32; 128],
-    wanted: &'a [u32; 320],
-    sensors: u32,
-    aside: &'a [u32; 256],
-    ports: &mut [u32; 320],
-    held: Held,
-    count: u32,
-    types: &'b [u32],
-    words: &'b [u32],
-) -> Face
-    ensures answer { λ r. ⌜ r ≡ tickFace (tick (boardBy instructions (now (code .entry)) (now (drivers .entry)) (now (guards .entry)) (now (modes .entry)) (now (tasks .entry)) (now (wanted .entry)) [] sensors 0)
-        (stateOf (standingOf held) (now (ports .entry)) (now (aside .entry))) count (now (types .entry)) (now (words .entry))) ⌝ }
-    ensures ports { λ _. ⌜ now (ports .exit) ≡ tick (boardBy instructions (now (code .entry)) (now (drivers .entry)) (now (guards .entry)) (now (modes .entry)) (now (tasks .entry)) (now (wanted .entry)) [] sensors 0)
-        (stateOf (standingOf held) (now (ports .entry)) (now (aside .entry))) count (now (types .entry)) (now (words .entry)) .state .store .ports ⌝ }
-{
-    let at = standing(held);
-    let served = calls::tick_on(
-        instructions,
-        code,
-        drivers,
-        guards,
-        modes,
-        tasks,
-        wanted,
-        sensors,
-        aside,
-        ports,
-        at,
-        count,
-        types,
-        words,
-    );
-    let answer = served.answer;
-    let on = served.standing;
-    tick_face(answer, on)
-}
-
-// The next task to run.
-#[no_mangle]
-pub extern "C" fn native_next(held: Held) -> Face
-    ensures { λ r. ⌜ ((ports aside : List ℕ) → r ≡ turnFace (nextTask (stateOf (standingOf held) ports aside))) ⌝ }
-{
-    let at = standing(held);
-    let turned = calls::next_on(at);
-    let answer = turned.answer;
-    let on = turned.standing;
-    turn_face(answer, on)
-}
-
-// A task is finished, with the types and words of its results, which go aside.
-#[no_mangle]
-pub extern "C" fn native_finish<'a, 'b>(
-    tasks: &'a [u32; 128],
-    wanted: &'a [u32; 320],
-    aside: &mut [u32; 256],
-    held: Held,
-    task: u32,
-    types: &'b [u32],
-    words: &'b [u32],
-) -> Face
-    ensures answer { λ r. ⌜ ((ports : List ℕ) → r ≡ finishFace (finish (boardBy 0 [] [] [] [] (now (tasks .entry)) (now (wanted .entry)) [] 0 0)
-        (stateOf (standingOf held) ports (now (aside .entry))) task (now (types .entry)) (now (words .entry)))) ⌝ }
-    ensures aside { λ _. ⌜ ((ports : List ℕ) → now (aside .exit) ≡ finish (boardBy 0 [] [] [] [] (now (tasks .entry)) (now (wanted .entry)) [] 0 0)
-        (stateOf (standingOf held) ports (now (aside .entry))) task (now (types .entry)) (now (words .entry)) .state .aside) ⌝ }
-{
-    let at = standing(held);
-    let ended = calls::finish_on(tasks, wanted, aside, at, task, types, words);
-    let answer = ended.answer;
-    let on = ended.standing;
-    finish_face(answer, on)
-}
-
-// ---- the machine as one record, handed on by value
 
 fn is_read(answer: ReadAnswer) -> bool
     ensures { λ r. ⌜ r ≡ isRead answer ⌝ }

@@ -9,17 +9,17 @@ use mathlib.Core.List.{List, [], _∷_}
 use lib.ListN.{length, getD, drop, drop-of-length-le}
 use lib.Seq.{drop-cons}
 use lib.Dec.{ltb}
-use borrow.Author.Tests.{ltb-true, ltb-false}
+use borrow.Author.Tests.{ltb-true, ltb-false, lt-ltb, le-ltb}
 use Rattle.model.specs.Instructions.{Instr, nop, future, call, release, iff, jump, return, switch}
+use Rattle.guards.specs.Tabs.{length-tab, within-tab}
 use Rattle.machine.specs.Boards.{Board}
 use Rattle.machine.specs.Instructions.{Fault, wild, astray, Res, ok, bad, Future, Halt, Run, Tally, counted, step, exec, goOn, only, leave}
 use Rattle.machine.specs.Store.{Store, storeOps, reaction}
-use Rattle.steps.specs.declared.Core.{Core}
 use Rattle.steps.specs.declared.Ending.{Ending}
 use Rattle.steps.specs.declared.Ending.the-variants as E
-use Rattle.steps.specs.declared.After.{After}
-use Rattle.steps.specs.declared.After.the-variants.{Next, Ended}
-use Rattle.steps.specs.Steps.{storeOf, promiseOf, endingBy, haltedBy, goes, Stepped, stepped, obey, stepOf}
+use Rattle.steps.specs.declared.Row.{Row}
+use Rattle.steps.specs.Rows.{reactive, instrBy, rowOf}
+use Rattle.steps.specs.Steps.{Core, After, Next, Ended, storeOf, promiseOf, endingBy, haltedBy, goes, Stepped, stepped, obey, stepOf}
 
 -- How a run ended; where it returned, also the ports and the number of instructions.
 pub record Shown : Type 0 where
@@ -173,6 +173,32 @@ module _ (b : Board) (aside : List ℕ) (before : List ℕ) where
     pub over : n ≤ steps → (held : List ℕ) → closes before (E.Fault 41) 0 held ≡ whole
     unfolding exec
     over done held = let count : n - steps ≡ 0 = omega arith in sym (left ∙ ap (λ (k : ℕ). runs k steps core ports) count)
+
+abbrev pub carries : ℕ → ℕ → Bool → ℕ → ℕ → ℕ → ℕ → ℕ → Core
+carries pc mode pledged next delay out waiting finished =
+    record { pc = pc; mode = mode; pledged = pledged; next = next; delay = delay; out = out; waiting = waiting; finished = finished }
+
+-- ---- the same over rows: a turn of the loop obeys the row where the core stands, or faults behind the last one
+module _ (n : ℕ) (code drivers guards modes tasks aside before : List ℕ) (whole : Shown) (steps : ℕ) (core : Core) (ports : List ℕ)
+    (left : whole ≡ runs (reactive n code drivers guards modes tasks) aside before (n - steps) steps core ports) (within : steps < n) where
+  abbrev obeys : Row → Stepped
+  obeys row = obey (reactive n code drivers guards modes tasks) aside (instrBy (row .opcode) (row .first) (row .second)) (goes (core .pc + 1) core) ports
+
+  fetched : (row : Row) → row ≡ rowOf code (core .pc) → core .pc < n → obeys row ≡ stepOf (reactive n code drivers guards modes tasks) aside core ports
+  unfolding stepOf
+  fetched row is here = rw (is, length-tab, lt-ltb _ _ here, within-tab _ _ _ _ here) refl
+
+  pub row-on : (row : Row) → row ≡ rowOf code (core .pc) → core .pc < n → (then : Core) (held : List ℕ) → stepped (Next then) held ≡ obeys row
+      → whole ≡ runs (reactive n code drivers guards modes tasks) aside before (n - (steps + 1)) (steps + 1) then held
+  row-on row is here then held same = goes-on (reactive n code drivers guards modes tasks) aside before whole n steps core ports left within then held (same ∙ fetched row is here)
+
+  pub row-ends : (row : Row) → row ≡ rowOf code (core .pc) → core .pc < n → (ending : Ending) (held : List ℕ) → stepped (Ended ending) held ≡ obeys row
+      → closes before ending (steps + 1) held ≡ whole
+  row-ends row is here ending held same = ends (reactive n code drivers guards modes tasks) aside before whole n steps core ports left within ending held (same ∙ fetched row is here)
+
+  pub row-none : n ≤ core .pc → closes before (E.Fault 41) (steps + 1) ports ≡ whole
+  unfolding stepOf
+  row-none past = ends (reactive n code drivers guards modes tasks) aside before whole n steps core ports left within (E.Fault 41) ports (rw (length-tab, le-ltb _ _ past) refl)
 
 -- a reaction is a run from its first instruction, of as many instructions as the code holds
 abbrev pub standing : ℕ → ℕ → Store → Core

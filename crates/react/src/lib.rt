@@ -1,21 +1,18 @@
 // One reaction of the machine, over rows of numbers lent from a table.
 // Promises: `react` is the definition's reaction for every row, every state and every list of readings; after a fault the ports are
 // what they were.
-// Builds on the instructions and the store of machine, and on steps.
+// Builds on the instructions and the store of machine, on steps, guards and bits.
 ghost use mathlib.Core.Path.{_≡_};
 ghost use mathlib.Core.List.{List};
-ghost use Prim.Native.Nat.{ℕ, _<_};
+ghost use Prim.Native.Nat.{ℕ};
 ghost use Rattle.model.specs.Modules.{place as placed};
 ghost use Rattle.machine.specs.Store.{reaction};
 ghost use Rattle.steps.specs.Rows.{reactive};
-ghost use Rattle.steps.specs.Steps.{stepped, stepOf};
+ghost use Rattle.steps.specs.declared.Ending.the-variants.{Returned, Late, Fault};
 ghost use Rattle.react.specs.Runs.{shown, shows, closes};
-ghost use Rattle.react.specs.Slides.{Slides};
-use steps::After;
-use steps::Core;
+use steps::Driven;
 use steps::Ending;
-use steps::lights;
-use steps::lights::Light;
+use steps::Halted;
 
 // How a reaction ended, and the number of instructions obeyed; 0 after a fault.
 pub struct Ran {
@@ -23,92 +20,42 @@ pub struct Ran {
     pub steps: u32,
 }
 
-// The instruction where the core stands. Behind the last one: fault 41.
-fn step<'a>(
-    instructions: u32,
-    code: &'a [u32],
-    drivers: &'a [u32],
-    guards: &'a [u32],
-    modes: &'a [u32],
-    tasks: &'a [u32],
-    aside: &'a [u32],
-    ports: &mut [u32; 320],
-    core: Core,
-) -> After
-    ensures { λ r. ⌜ stepped r (now (ports .exit)) ≡ stepOf (reactive instructions (now (code .entry)) (now (drivers .entry)) (now (guards .entry)) (now (modes .entry)) (now (tasks .entry)))
-        (now (aside .entry)) core (now (ports .entry)) ⌝ }
+fn returned(halted: Halted, steps: u32) -> Ran
+    ensures { λ r. ⌜ r ≡ record { ending = Returned halted; steps = steps } ⌝ }
 {
-    let pc = core.pc;
-    if instructions <= pc {
-        return After::Ended(Ending::Fault(41));
+    Ran {
+        ending: Ending::Returned(halted),
+        steps: steps,
     }
-    let at = cells::wide32(pc) * 3;
-    let opcode = cells::at32(code, at);
-    let first = cells::at32(code, at + 1);
-    let second = cells::at32(code, at + 2);
-    let mut on = core;
-    on.pc = pc + 1;
-    steps::obey(
-        opcode,
-        first,
-        second,
-        drivers,
-        guards,
-        modes,
-        tasks,
-        aside,
-        ports,
-        on,
-    )
 }
 
-// How far light instructions went: where the machine then stands, and the number of instructions obeyed in all.
-struct Slid {
-    pc: u32,
-    steps: u32,
+fn late(task: u32) -> Ran
+    ensures { λ r. ⌜ r ≡ record { ending = Late task; steps = 0 } ⌝ }
+{
+    Ran {
+        ending: Ending::Late(task),
+        steps: 0,
+    }
 }
 
-// Light instructions as long as they follow each other, from a place on, where so many were obeyed before; one is left to obey.
-fn slide<'a>(
-    instructions: u32,
-    code: &'a [u32],
-    drivers: &'a [u32],
-    guards: &'a [u32],
-    ports: &mut [u32; 320],
-    pc: u32,
-    steps: u32,
-) -> Slid
-    requires { ⌜ steps < instructions ⌝ }
-    ensures { λ r. ⌜ Slides instructions (now (code .entry)) (now (drivers .entry)) (now (guards .entry)) pc steps (now (ports .entry)) (r .pc) (r .steps) (now (ports .exit)) ⌝ }
+fn faulty(number: u8) -> Ran
+    ensures { λ r. ⌜ r ≡ record { ending = Fault number; steps = 0 } ⌝ }
 {
-    let mut at = pc;
-    let mut obeyed = steps;
-    while obeyed + 1 < instructions {
-        let light = lights::obey_light(instructions, code, drivers, guards, ports, at);
-        let Light::Onto(next) = light else {
-            return Slid {
-                pc: at,
-                steps: obeyed,
-            };
-        };
-        at = next;
-        obeyed += 1;
-    }
-    Slid {
-        pc: at,
-        steps: obeyed,
+    Ran {
+        ending: Ending::Fault(number),
+        steps: 0,
     }
 }
 
 // Instruction after instruction until the reaction ends, at most as many as the code holds: else fault 41.
 fn obey_all<'a>(
     instructions: u32,
-    code: &'a [u32],
-    drivers: &'a [u32],
-    guards: &'a [u32],
-    modes: &'a [u32],
-    tasks: &'a [u32],
-    aside: &'a [u32],
+    code: &'a [u32; 12288],
+    drivers: &'a [u32; 3456],
+    guards: &'a [u32; 1536],
+    modes: &'a [u32; 24],
+    tasks: &'a [u32; 128],
+    aside: &'a [u32; 256],
     ports: &mut [u32; 320],
     mode: u32,
     pc: u32,
@@ -120,49 +67,83 @@ fn obey_all<'a>(
         ≡ shown before (reaction (reactive instructions (now (code .entry)) (now (drivers .entry)) (now (guards .entry)) (now (modes .entry)) (now (tasks .entry))) (now (aside .entry)) mode pc
         (record { ports = now (ports .entry); out = out; waiting = waiting; finished = finished }))) ⌝ }
 {
-    let mut core = Core {
-        pc: pc,
-        mode: mode,
-        pledged: false,
-        next: 0,
-        delay: 0,
-        out: out,
-        waiting: waiting,
-        finished: finished,
-    };
+    let mut at = pc;
+    let mut serving = mode;
+    let mut pledged = false;
+    let mut next = 0u32;
+    let mut delay = 0u32;
+    let mut released = out;
+    let mut waits = waiting;
+    let mut done = finished;
     let mut steps = 0u32;
     while steps < instructions {
-        let slid = slide(instructions, code, drivers, guards, ports, core.pc, steps);
-        core.pc = slid.pc;
-        steps = slid.steps;
-        let after = step(
-            instructions,
-            code,
-            drivers,
-            guards,
-            modes,
-            tasks,
-            aside,
-            ports,
-            core,
-        );
+        if instructions <= at {
+            return faulty(41);
+        }
+        let row = steps::row_at(code, at);
+        let opcode = row.opcode;
+        let first = row.first;
+        at += 1;
         steps += 1;
-        match after {
-            After::Next(next) => {
-                core = next;
+        match opcode {
+            1 => {
+                if pledged {
+                    return faulty(42);
+                }
+                pledged = true;
+                next = first;
+                delay = row.second;
             }
-            After::Ended(ending) => {
-                return Ran {
-                    ending: ending,
-                    steps: steps,
+            2 => {
+                let driven = steps::drive(drivers, tasks, aside, first, ports, released, done);
+                match driven {
+                    Driven::Done => {}
+                    Driven::Over(task) => {
+                        released = bits::part(released, task);
+                        done = bits::part(done, task);
+                    }
+                    Driven::Late(task) => {
+                        return late(task);
+                    }
+                }
+            }
+            3 => {
+                if bits::has(released, first) {
+                    return faulty(43);
+                }
+                released = bits::join(released, first);
+                waits = bits::join(waits, first);
+            }
+            4 => {
+                if !guards::holds(ports, guards::guard_at(guards, first)) {
+                    at = row.second;
+                }
+            }
+            5 => {
+                at = first;
+            }
+            6 => {
+                if !pledged {
+                    return faulty(42);
+                }
+                let halted = Halted {
+                    mode: serving,
+                    next: next,
+                    delay: delay,
+                    out: released,
+                    waiting: waits,
+                    finished: done,
                 };
+                return returned(halted, steps);
             }
+            7 => {
+                serving = first;
+                at = steps::begin_of(modes, first);
+            }
+            _ => {}
         }
     }
-    Ran {
-        ending: Ending::Fault(41),
-        steps: 0,
-    }
+    faulty(41)
 }
 
 // Sensors take the host's readings.
@@ -175,11 +156,11 @@ fn sense(words: &[u32], ports: &mut [u32; 320])
 // Sensors take the readings, then one reaction. The ports change where it returns, and not where it faults.
 pub fn react<'a, 'b>(
     instructions: u32,
-    code: &'a [u32],
-    drivers: &'a [u32],
-    guards: &'a [u32],
-    modes: &'a [u32],
-    tasks: &'a [u32],
+    code: &'a [u32; 12288],
+    drivers: &'a [u32; 3456],
+    guards: &'a [u32; 1536],
+    modes: &'a [u32; 24],
+    tasks: &'a [u32; 128],
     aside: &'a [u32; 256],
     words: &'b [u32],
     ports: &mut [u32; 320],

@@ -2,4 +2,3 @@ pub mod Rows
 pub mod RowLaws
 pub mod Steps
 pub mod Parts
-pub mod Lights

@@ -12,6 +12,7 @@ use Rattle.machine.specs.Boards.{Board, Lot}
 use Rattle.machine.specs.Store.{part}
 use Rattle.guards.specs.Tabs.{tab}
 use Rattle.guards.specs.Rows.{guardsBy}
+use Rattle.steps.specs.declared.Row.{Row}
 
 abbrev pub instrBy : ℕ → ℕ → ℕ → Instr
 instrBy opcode first second =
@@ -26,6 +27,9 @@ instrBy opcode first second =
 
 abbrev pub instrAt : List ℕ → ℕ → Instr
 instrAt rows i = instrBy (getD rows (i * 3) 0) (getD rows (i * 3 + 1) 0) (getD rows (i * 3 + 2) 0)
+
+abbrev pub rowOf : List ℕ → ℕ → Row
+rowOf rows i = record { opcode = getD rows (i * 3) 0; first = getD rows (i * 3 + 1) 0; second = getD rows (i * 3 + 2) 0 }
 
 abbrev pub driverAt : List ℕ → ℕ → Driver
 driverAt rows i =

@@ -6,15 +6,32 @@ use mathlib.Core.List.{List}
 use lib.ListN.{length, getD}
 use lib.Dec.{ltb}
 use Rattle.model.specs.Instructions.{Instr, nop, future, call, release, iff, jump, return, switch}
+use Rattle.machine.specs.Words.{parted}
 use Rattle.machine.specs.Boards.{Board}
 use Rattle.machine.specs.Instructions.{Fault, late, wild, astray, clash, Res, ok, bad, Future, Halt}
 use Rattle.machine.specs.Store.{Store, storeOps}
-use Rattle.steps.specs.declared.Core.{Core}
 use Rattle.steps.specs.declared.Halted.{Halted}
 use Rattle.steps.specs.declared.Ending.{Ending}
 use Rattle.steps.specs.declared.Ending.the-variants as E
-use Rattle.steps.specs.declared.After.{After}
-use Rattle.steps.specs.declared.After.the-variants.{Next, Ended}
+use Rattle.steps.specs.declared.Driven.{Driven}
+use Rattle.steps.specs.declared.Driven.the-variants.{Done, Over, Late}
+
+-- ---- what the machine carries from one instruction to the next: where it stands, its mode, the future if one is promised, the words of tasks
+
+pub record Core : Type 0 where
+  pub pc : ℕ
+  pub mode : ℕ
+  pub pledged : Bool
+  pub next : ℕ
+  pub delay : ℕ
+  pub out : ℕ
+  pub waiting : ℕ
+  pub finished : ℕ
+
+-- what comes after an instruction: the next one, or the end
+pub data After : Type 0 where
+  Next : Core → After
+  Ended : Ending → After
 
 -- ---- what the core stands for
 
@@ -99,6 +116,19 @@ keeps store core =
       finished = store .finished;
     }
 
+abbrev pub worded : ℕ → ℕ → Core → Core
+worded out finished core =
+    record {
+      pc = core .pc;
+      mode = core .mode;
+      pledged = core .pledged;
+      next = core .next;
+      delay = core .delay;
+      out = out;
+      waiting = core .waiting;
+      finished = finished;
+    }
+
 abbrev pub haltedOf : Core → Halted
 haltedOf core =
     record { mode = core .mode; next = core .next; delay = core .delay; out = core .out; waiting = core .waiting; finished = core .finished }
@@ -115,6 +145,12 @@ stepped after ports = record { after = after; ports = ports }
 abbrev pub settled : Core → List ℕ → Res Store → Stepped
 settled core ports (ok store) = stepped (Next (keeps store core)) (store .ports)
 settled core ports (bad fault) = stepped (Ended (endingBy fault)) ports
+
+-- what a driver leaves
+abbrev pub drives : Driven → Core → List ℕ → Stepped
+drives Done core ports = stepped (Next core) ports
+drives (Over task) core ports = stepped (Next (worded (parted (core .out) task) (parted (core .finished) task) core)) ports
+drives (Late task) core ports = stepped (Ended (E.Late task)) ports
 
 abbrev pub promised : ℕ → ℕ → Core → Bool → After
 promised pc delay core true = Ended (E.Fault 42)

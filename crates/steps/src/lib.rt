@@ -1,28 +1,21 @@
-// One instruction of the machine, over rows of numbers lent from a table: drivers, releases, guards, futures and the rest.
-// Promises: each function is the definition's instruction, for every row and every state; an instruction that faults changes nothing.
-// Builds on the instructions and the store of machine, on guards, bits and cells.
+// What one instruction of the machine does, over rows of numbers lent from a table: the row itself, drivers, begins of modes.
+// Promises: each function is the definition's, for every row and every state; a driver that faults changes nothing.
+// Builds on the instructions and the store of machine, on bits and cells.
 ghost use mathlib.Core.Path.{_≡_};
 ghost use mathlib.Core.List.{List, []};
 ghost use Prim.Native.Nat.{ℕ, _+_, _*_};
 ghost use lib.ListN.{getD};
 ghost use Rattle.model.specs.Modules.{place as placed, copyTo};
 ghost use Rattle.machine.specs.Words.{has as hasOf};
-ghost use Rattle.machine.specs.Store.{part, ended, driven, released};
-ghost use Rattle.steps.specs.Rows.{instrBy, driverIn, beginsBy, reactive, taskCell};
-ghost use Rattle.steps.specs.Steps.{stepped, settled, storeOf, promised, returned, obey as obeyOf};
+ghost use Rattle.machine.specs.Store.{part, ended, driven};
+ghost use Rattle.steps.specs.Rows.{rowOf, driverIn, beginsBy, reactive, taskCell};
+ghost use Rattle.steps.specs.Steps.{Core, settled, storeOf, worded, drives};
 
-pub mod lights;
-
-// What the machine carries from one instruction to the next: where it stands, its mode, the future if one is promised, the words of tasks.
-pub struct Core {
-    pub pc: u32,
-    pub mode: u32,
-    pub pledged: bool,
-    pub next: u32,
-    pub delay: u32,
-    pub out: u64,
-    pub waiting: u64,
-    pub finished: u64,
+// An instruction: its opcode and arguments.
+pub struct Row {
+    pub opcode: u32,
+    pub first: u32,
+    pub second: u32,
 }
 
 // A reaction that returned: the mode, where the next one begins and how long until then, the words of tasks.
@@ -42,10 +35,30 @@ pub enum Ending {
     Fault(u8),
 }
 
-// What comes after an instruction: the next one, or the end.
-pub enum After {
-    Next(Core),
-    Ended(Ending),
+// What a driver did to the words of tasks: nothing; the task is out no more; it is late, and nothing is done.
+pub enum Driven {
+    Done,
+    Over(u32),
+    Late(u32),
+}
+
+// The instruction at a place of the code.
+pub fn row_at(code: &[u32], pc: u32) -> Row
+    ensures { λ r. ⌜ r ≡ rowOf (now (code .entry)) pc ⌝ }
+{
+    let at = cells::wide32(pc) * 3;
+    if at + 2 < code.len() {
+        return Row {
+            opcode: code[at],
+            first: code[at + 1],
+            second: code[at + 2],
+        };
+    }
+    Row {
+        opcode: cells::at32(code, at),
+        first: cells::at32(code, at + 1),
+        second: cells::at32(code, at + 2),
+    }
 }
 
 // Words put one after the other from a place on.
@@ -116,40 +129,39 @@ fn terminate<'a>(
     aside: &'a [u32],
     task: u32,
     ports: &mut [u32; 320],
-    core: Core,
-) -> After
-    ensures { λ r. ⌜ stepped r (now (ports .exit)) ≡ settled core (now (ports .entry))
-        (ended (reactive 0 [] [] [] [] (now (tasks .entry))) (now (aside .entry)) task (storeOf core (now (ports .entry))) (hasOf (core .out) task) (hasOf (core .finished) task)) ⌝ }
+    out: u64,
+    finished: u64,
+) -> Driven
+    ensures { λ r. ⌜ ((core : Core) → drives r (worded out finished core) (now (ports .exit)) ≡ settled (worded out finished core) (now (ports .entry))
+        (ended (reactive 0 [] [] [] [] (now (tasks .entry))) (now (aside .entry)) task (storeOf (worded out finished core) (now (ports .entry))) (hasOf out task) (hasOf finished task))) ⌝ }
 {
-    if !bits::has(core.out, task) {
-        return After::Next(core);
+    if !bits::has(out, task) {
+        return Driven::Done;
     }
-    if !bits::has(core.finished, task) {
-        return After::Ended(Ending::Late(task));
+    if !bits::has(finished, task) {
+        return Driven::Late(task);
     }
     let to = task_cell(tasks, task, 2);
     let count = task_cell(tasks, task, 3);
     hand_out(aside, task, count, to, ports);
-    let mut on = core;
-    on.out = bits::part(core.out, task);
-    on.finished = bits::part(core.finished, task);
-    After::Next(on)
+    Driven::Over(task)
 }
 
 // A driver: 3 copies a source to an actuator's port, 4 sources to a task's inputs, 5 terminates a task.
-fn drive<'a>(
+pub fn drive<'a>(
     drivers: &'a [u32],
     tasks: &'a [u32],
     aside: &'a [u32],
     driver: u32,
     ports: &mut [u32; 320],
-    core: Core,
-) -> After
-    ensures { λ r. ⌜ stepped r (now (ports .exit)) ≡ settled core (now (ports .entry))
-        (driven (reactive 0 [] (now (drivers .entry)) [] [] (now (tasks .entry))) (now (aside .entry)) (driverIn (now (drivers .entry)) driver) (storeOf core (now (ports .entry)))) ⌝ }
+    out: u64,
+    finished: u64,
+) -> Driven
+    ensures { λ r. ⌜ ((core : Core) → drives r (worded out finished core) (now (ports .exit)) ≡ settled (worded out finished core) (now (ports .entry))
+        (driven (reactive 0 [] (now (drivers .entry)) [] [] (now (tasks .entry))) (now (aside .entry)) (driverIn (now (drivers .entry)) driver) (storeOf (worded out finished core) (now (ports .entry))))) ⌝ }
 {
     if 288 <= driver {
-        return After::Next(core);
+        return Driven::Done;
     }
     let at = cells::wide32(driver) * 12;
     let tag = cells::at32(drivers, at);
@@ -158,98 +170,12 @@ fn drive<'a>(
         let count = cells::at32(drivers, at + 2);
         let to = task_cell(tasks, target, 0);
         copy_in(drivers, driver, count, to, ports);
-        return After::Next(core);
+        return Driven::Done;
     }
     if tag == 5 {
-        return terminate(tasks, aside, target, ports, core);
+        return terminate(tasks, aside, target, ports, out, finished);
     }
     let source = cells::at32(drivers, at + 3);
     cells::copy32(ports, cells::wide32(source), cells::wide32(target));
-    After::Next(core)
-}
-
-// A future: a second one in a reaction is fault 42.
-fn promise(pc: u32, delay: u32, core: Core) -> After
-    ensures { λ r. ⌜ r ≡ promised pc delay core (core .pledged) ⌝ }
-{
-    if core.pledged {
-        return After::Ended(Ending::Fault(42));
-    }
-    let mut on = core;
-    on.pledged = true;
-    on.next = pc;
-    on.delay = delay;
-    After::Next(on)
-}
-
-// A return: with no future it is fault 42.
-fn leave(core: Core) -> After
-    ensures { λ r. ⌜ r ≡ returned core (core .pledged) ⌝ }
-{
-    if core.pledged {
-        let halted = Halted {
-            mode: core.mode,
-            next: core.next,
-            delay: core.delay,
-            out: core.out,
-            waiting: core.waiting,
-            finished: core.finished,
-        };
-        return After::Ended(Ending::Returned(halted));
-    }
-    After::Ended(Ending::Fault(42))
-}
-
-// Releasing a task that is out: fault 43. Else it is out and waits to be handed out.
-fn release(task: u32, core: Core) -> After
-    ensures { λ r. ⌜ ((ports : List ℕ) → stepped r ports ≡ settled core ports (released (reactive 0 [] [] [] [] []) [] task (storeOf core ports) (hasOf (core .out) task))) ⌝ }
-{
-    if bits::has(core.out, task) {
-        return After::Ended(Ending::Fault(43));
-    }
-    let mut on = core;
-    on.out = bits::join(core.out, task);
-    on.waiting = bits::join(core.waiting, task);
-    After::Next(on)
-}
-
-// One instruction, by its opcode and arguments; the core's pc stands behind it.
-pub fn obey<'a>(
-    opcode: u32,
-    first: u32,
-    second: u32,
-    drivers: &'a [u32],
-    guards: &'a [u32],
-    modes: &'a [u32],
-    tasks: &'a [u32],
-    aside: &'a [u32],
-    ports: &mut [u32; 320],
-    core: Core,
-) -> After
-    ensures { λ r. ⌜ stepped r (now (ports .exit)) ≡ obeyOf (reactive 0 [] (now (drivers .entry)) (now (guards .entry)) (now (modes .entry)) (now (tasks .entry)))
-        (now (aside .entry)) (instrBy opcode first second) core (now (ports .entry)) ⌝ }
-{
-    let mut on = core;
-    match opcode {
-        1 => promise(first, second, core),
-        2 => drive(drivers, tasks, aside, first, ports, core),
-        3 => release(first, core),
-        4 => {
-            if !guards::holds(ports, guards::guard_at(guards, first)) {
-                on.pc = second;
-            }
-            After::Next(on)
-        }
-        5 => {
-            on.pc = first;
-            After::Next(on)
-        }
-        6 => leave(core),
-        7 => {
-            on.pc = begin_of(modes, first);
-            on.mode = first;
-            After::Next(on)
-        }
-        _ => After::Next(core),
-    }
+    Driven::Done
 }

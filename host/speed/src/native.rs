@@ -30,7 +30,6 @@ pub struct Face {
     pub number: u8,
     pub instructions: u32,
     pub task: u32,
-    pub held: Held,
 }
 
 const NO_TASK: u32 = u32::MAX;
@@ -62,19 +61,22 @@ extern "C" {
         sensors: u32,
         aside: *const [u32; 256],
         ports: *mut [u32; 320],
-        held: Held,
+        numbers: *mut [u32; 5],
+        marks: *mut [u8; 2],
+        sets: *mut [u64; 3],
         count: u32,
         types: *const u32,
         types_length: usize,
         words: *const u32,
         words_length: usize,
     ) -> Face;
-    fn native_next(held: Held) -> Face;
+    fn native_next(marks: *const [u8; 2], sets: *mut [u64; 3]) -> Face;
     fn native_finish(
         tasks: *const [u32; 128],
         wanted: *const [u32; 320],
         aside: *mut [u32; 256],
-        held: Held,
+        marks: *const [u8; 2],
+        sets: *mut [u64; 3],
         task: u32,
         types: *const u32,
         types_length: usize,
@@ -155,7 +157,9 @@ pub struct Values {
 
 pub struct Machine {
     pub board: Box<Board>,
-    pub held: Held,
+    numbers: [u32; 5],
+    marks: [u8; 2],
+    sets: [u64; 3],
     pub ports: [u32; 320],
     aside: [u32; 256],
 }
@@ -167,14 +171,35 @@ impl Machine {
         assert_eq!(board.read(file), 0, "the proved reader takes the file");
         let modes = board.counts[2] as usize;
         let start = (0..modes).find(|mode| board.modes[3 * mode] == 1).expect("a start mode");
-        let held = Held {
-            clock: count,
-            mode: start as u32,
-            pc: board.modes[3 * start + 2],
-            ..Held::default()
-        };
+        let numbers = [count, 0, start as u32, board.modes[3 * start + 2], 0];
         let ports = board.starts;
-        Machine { board, held, ports, aside: [0; 256] }
+        Machine { board, numbers, marks: [0; 2], sets: [0; 3], ports, aside: [0; 256] }
+    }
+
+    pub fn count(&self) -> u32 {
+        self.numbers[0]
+    }
+
+    pub fn remaining(&self) -> u32 {
+        self.numbers[1]
+    }
+
+    pub fn held(&self) -> Held {
+        let [clock, remaining, mode, pc, late] = self.numbers;
+        let [stopped, fault] = self.marks;
+        let [out, waiting, finished] = self.sets;
+        Held {
+            clock,
+            remaining,
+            mode,
+            pc,
+            out,
+            waiting,
+            finished,
+            stopped: stopped != 0,
+            fault,
+            late,
+        }
     }
 
     /// The number of the refusal or fault, or 0, and the instructions obeyed.
@@ -192,7 +217,9 @@ impl Machine {
                 board.counts[1],
                 &self.aside,
                 &mut self.ports,
-                self.held,
+                &mut self.numbers,
+                &mut self.marks,
+                &mut self.sets,
                 count,
                 readings.types.as_ptr(),
                 readings.types.len(),
@@ -200,13 +227,11 @@ impl Machine {
                 readings.words.len(),
             )
         };
-        self.held = face.held;
         (face.number, face.instructions)
     }
 
     pub fn next_task(&mut self) -> Option<u32> {
-        let face = unsafe { native_next(self.held) };
-        self.held = face.held;
+        let face = unsafe { native_next(&self.marks, &mut self.sets) };
         (face.task != NO_TASK).then_some(face.task)
     }
 
@@ -217,7 +242,8 @@ impl Machine {
                 &board.tasks,
                 &board.types,
                 &mut self.aside,
-                self.held,
+                &self.marks,
+                &mut self.sets,
                 task,
                 results.types.as_ptr(),
                 results.types.len(),
@@ -225,7 +251,6 @@ impl Machine {
                 results.words.len(),
             )
         };
-        self.held = face.held;
         face.number
     }
 }

@@ -53,7 +53,7 @@ impl Pair {
             while let Some(task) = self.proved.next_task() {
                 black_box(self.proved.finish(task, &self.proved_results[task as usize]));
             }
-            let count = self.proved.held.clock.wrapping_add(self.proved.held.remaining);
+            let count = self.proved.count().wrapping_add(self.proved.remaining());
             obeyed = self.proved.tick(black_box(count), &self.proved_readings).1;
         }
         obeyed
@@ -78,7 +78,7 @@ impl Pair {
     /// So many ticks at the count that is already there.
     pub fn proved_idle(&mut self, calls: u32) {
         for _ in 0..calls {
-            black_box(self.proved.tick(black_box(self.proved.held.clock), &self.proved_readings));
+            black_box(self.proved.tick(black_box(self.proved.count()), &self.proved_readings));
         }
     }
 
@@ -90,7 +90,7 @@ impl Pair {
 
     /// Stops the program where the two machines do not stand alike.
     pub fn agrees(&self) {
-        let (held, tasks) = (&self.proved.held, self.second.tasks());
+        let (held, tasks) = (&self.proved.held(), self.second.tasks());
         assert_eq!(held.stopped, self.second.stopped(), "both stopped or neither");
         assert_eq!(
             (held.clock, held.remaining, held.mode),

@@ -2,13 +2,26 @@ use Rattle.machine.specs.Words.{lowestIn}
 use Rattle.bits.specs.Found.{task-is, nobody-is}
 use Rattle.machine.specs.Calls.{nextTask}
 use mathlib.Core.Path.{sym, _∙_, refl}
+use native.Mathlib.Omega.{arith}
 use borrow.Author.Needs.{needs}
 use Rattle.calls.proofs.next_on.Statement.{statement}
 use Rattle.calls.proofs.next_on.Tie as tie
 
+is-stopped-requires : tie.Need-is-stopped-requires
+is-stopped-requires c κs = search needs
+
 returns : tie.Need-returns
 unfolding nextTask
-returns c = λ ports aside. rw (c .if1 .taken) refl
+returns c = λ numbers ports aside. rw (sym (c .before .is-stopped .ensures) ∙ c .if1 .taken) refl
+
+word-at-requires : tie.Need-word-at-requires
+word-at-requires c κs = search needs
+
+word-at-requires-2 : tie.Need-word-at-requires-2
+word-at-requires-2 c κs = search needs
+
+word-at-requires-3 : tie.Need-word-at-requires-3
+word-at-requires-3 c κs = search needs
 
 lowest-requires : tie.Need-lowest-requires
 lowest-requires c κs = search needs
@@ -24,13 +37,24 @@ enum-told c = search needs
 
 returns-2 : tie.Need-returns-2
 unfolding nextTask
-returns-2 c = λ ports aside. rw (c .before .before .before .before .before .if1 .left, task-is (lowestIn (c .before .before .before .before .before .before .args .at .waiting)) _ (sym (c .before .before .before .before .lowest .ensures) ∙ c .before .before .found .given .1), c .part .ensures) refl
+returns-2 c = λ numbers ports aside. rw (sym (c .before .before .before .before .before .before .before .before .before .before .before .before .before .before .before .before .is-stopped .ensures) ∙ c .before .before .before .before .before .before .before .before .before .before .before .before .before .before .before .if1 .left, ← (c .before .before .before .before .before .before .before .before .before .before .before .before .word-at .ensures), ← (c .before .before .before .before .before .before .before .before .before .word-at2 .ensures), ← (c .before .before .before .before .before .before .word-at3 .ensures), task-is (lowestIn (c .before .before .before .before .before .before .before .before .before .word-at2 .result)) _ (sym (c .before .before .before .before .before .lowest .ensures) ∙ c .before .before .before .found .given .1), c .before .part .ensures) refl
 
 returns-3 : tie.Need-returns-3
 unfolding nextTask
-returns-3 c = λ ports aside. rw (c .before .before .before .if1 .left, nobody-is (lowestIn (c .before .before .before .before .args .at .waiting)) (sym (c .before .before .lowest .ensures) ∙ c .enum-told .given .1)) refl
+returns-3 c = λ numbers ports aside. rw (sym (c .before .before .before .before .before .before .before .before .before .before .before .before .before .is-stopped .ensures) ∙ c .before .before .before .before .before .before .before .before .before .before .before .before .if1 .left, ← (c .before .before .before .before .before .before .word-at2 .ensures), nobody-is (lowestIn (c .before .before .before .before .before .before .word-at2 .result)) (sym (c .before .before .lowest .ensures) ∙ c .enum-told .given .1)) refl
 
 pub next-on-spec : {M : Type 1} → statement M
 next-on-spec =
     tie.close
-    (tie.spec returns lowest-requires enum-known-found part-requires enum-told returns-2 returns-3)
+    (tie.spec
+    is-stopped-requires
+    returns
+    word-at-requires
+    word-at-requires-2
+    word-at-requires-3
+    lowest-requires
+    enum-known-found
+    part-requires
+    enum-told
+    returns-2
+    returns-3)

@@ -1,9 +1,29 @@
-use Rattle.calls.specs.States.{stateOf, closed, closes-reaction}
+use Rattle.calls.specs.States.{stateBy, closed, closes-reaction}
+use Rattle.steps.specs.Rows.{reactive}
 use denote.Ref.{now}
 use mathlib.Core.Path.{ap, _∙_}
+use native.Mathlib.Omega.{arith}
 use borrow.Author.Needs.{needs}
 use Rattle.calls.proofs.react_on.Statement.{statement}
 use Rattle.calls.proofs.react_on.Tie as tie
+
+at32-requires : tie.Need-at32-requires
+at32-requires c κs = search needs
+
+at32-requires-2 : tie.Need-at32-requires-2
+at32-requires-2 c κs = search needs
+
+at32-requires-3 : tie.Need-at32-requires-3
+at32-requires-3 c κs = search needs
+
+word-at-requires : tie.Need-word-at-requires
+word-at-requires c κs = search needs
+
+word-at-requires-2 : tie.Need-word-at-requires-2
+word-at-requires-2 c κs = search needs
+
+word-at-requires-3 : tie.Need-word-at-requires-3
+word-at-requires-3 c κs = search needs
 
 react-requires : tie.Need-react-requires
 react-requires c κs = search needs
@@ -24,18 +44,27 @@ stop-requires-2 : tie.Need-stop-requires-2
 stop-requires-2 c κs = search needs
 
 returns : tie.Need-returns
-returns c = let a = c .before .before .before .before .before .before .before .before .before .before .before .args in (rw (c .before .ending .given .1) at (ap (closed (stateOf (a .at) (now (a .ports)) (now (a .aside))) (a .count)) (c .before .before .before .react .ensures))) ∙ closes-reaction _ _ _ _
+returns c = let a = c .before .before .before .before .before .before .before .before .before .before .before .before .before .before .before .before .before .before .before .before .before .before .before .before .before .before .args in rw (c .before .before .before .before .before .before .before .before .before .before .before .before .before .before .before .before .at323 .ensures) ((rw (c .before .before .before .ending .given .1, c .before .before .before .before .before .before .before .before .before .before .before .before .before .before .before .before .before .before .before .before .before .before .at32 .ensures, c .before .before .before .before .before .before .before .before .before .before .before .before .before .before .before .before .before .before .before .at322 .ensures, c .before .before .before .before .before .before .before .before .before .before .before .before .before .word-at .ensures, c .before .before .before .before .before .before .before .before .before .before .word-at2 .ensures, c .before .before .before .before .before .before .before .word-at3 .ensures) at (ap (closed (stateBy (now (a .numbers)) (now (a .marks)) (now (a .sets)) (now (a .ports)) (now (a .aside))) (a .count)) (c .before .before .before .before .before .react .ensures)))
+    ∙ closes-reaction (reactive (a .instructions) (now (a .code)) (now (a .drivers)) (now (a .guards)) (now (a .modes)) (now (a .tasks))) (stateBy (now (a .numbers)) (now (a .marks)) (now (a .sets)) (now (a .ports)) (now (a .aside))) (a .count) (now (a .words)))
 
 returns-2 : tie.Need-returns-2
-returns-2 c = let a = c .before .before .before .before .before .before .before .before .before .before .before .before .args in rw (c .stop .ensures _ _) ((rw (c .before .before .ending2 .given .1) at (ap (closed (stateOf (a .at) (now (a .ports)) (now (a .aside))) (a .count)) (c .before .before .before .before .react .ensures))) ∙ closes-reaction _ _ _ _)
+returns-2 c = let a = c .before .before .before .before .before .before .before .before .before .before .before .before .before .before .before .before .before .before .before .before .before .before .before .before .before .before .before .args in rw (c .stop .ensures _ _ _) ((rw (c .before .before .before .before .ending2 .given .1, c .before .before .before .before .before .before .before .before .before .before .before .before .before .before .before .before .before .before .before .before .before .before .before .at32 .ensures, c .before .before .before .before .before .before .before .before .before .before .before .before .before .before .before .before .before .before .before .before .at322 .ensures, c .before .before .before .before .before .before .before .before .before .before .before .before .before .before .word-at .ensures, c .before .before .before .before .before .before .before .before .before .before .before .word-at2 .ensures, c .before .before .before .before .before .before .before .before .word-at3 .ensures) at (ap (closed (stateBy (now (a .numbers)) (now (a .marks)) (now (a .sets)) (now (a .ports)) (now (a .aside))) (a .count)) (c .before .before .before .before .before .before .react .ensures)))
+    ∙ closes-reaction (reactive (a .instructions) (now (a .code)) (now (a .drivers)) (now (a .guards)) (now (a .modes)) (now (a .tasks))) (stateBy (now (a .numbers)) (now (a .marks)) (now (a .sets)) (now (a .ports)) (now (a .aside))) (a .count) (now (a .words)))
 
 returns-3 : tie.Need-returns-3
-returns-3 c = let a = c .before .before .before .before .before .before .before .before .before .before .before .before .args in rw (c .stop2 .ensures _ _) ((rw (c .before .before .ending3 .given .1) at (ap (closed (stateOf (a .at) (now (a .ports)) (now (a .aside))) (a .count)) (c .before .before .before .before .react .ensures))) ∙ closes-reaction _ _ _ _)
+returns-3 c = let a = c .before .before .before .before .before .before .before .before .before .before .before .before .before .before .before .before .before .before .before .before .before .before .before .before .before .before .before .args in rw (c .stop2 .ensures _ _ _) ((rw (c .before .before .before .before .ending3 .given .1, c .before .before .before .before .before .before .before .before .before .before .before .before .before .before .before .before .before .before .before .before .before .before .before .at32 .ensures, c .before .before .before .before .before .before .before .before .before .before .before .before .before .before .before .before .before .before .before .before .at322 .ensures, c .before .before .before .before .before .before .before .before .before .before .before .before .before .before .word-at .ensures, c .before .before .before .before .before .before .before .before .before .before .before .word-at2 .ensures, c .before .before .before .before .before .before .before .before .word-at3 .ensures) at (ap (closed (stateBy (now (a .numbers)) (now (a .marks)) (now (a .sets)) (now (a .ports)) (now (a .aside))) (a .count)) (c .before .before .before .before .before .before .react .ensures)))
+    ∙ closes-reaction (reactive (a .instructions) (now (a .code)) (now (a .drivers)) (now (a .guards)) (now (a .modes)) (now (a .tasks))) (stateBy (now (a .numbers)) (now (a .marks)) (now (a .sets)) (now (a .ports)) (now (a .aside))) (a .count) (now (a .words)))
 
 pub react-on-spec : {M : Type 1} → statement M
 react-on-spec =
     tie.close
     (tie.spec
+    at32-requires
+    at32-requires-2
+    at32-requires-3
+    word-at-requires
+    word-at-requires-2
+    word-at-requires-3
     react-requires
     enum-known-ending
     enum-known-ending-2

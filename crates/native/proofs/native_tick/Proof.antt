@@ -7,9 +7,6 @@ use Rattle.native.proofs.native_tick.Tie as tie
 use Rattle.calls.proofs.tick_on.Reads as tick-on-reads
 use Rattle.native.proofs.tick_face.Reads as tick-face-reads
 
-standing-requires : tie.Need-standing-requires
-standing-requires c κs = search needs
-
 tick-on-requires : tie.Need-tick-on-requires
 tick-on-requires c κs = search needs
 
@@ -17,10 +14,8 @@ tick-face-requires : tie.Need-tick-face-requires
 tick-face-requires c κs = search needs
 
 returns : tie.Need-returns
-returns c =
-    let served = rw (c .before .before .before .before .before .before .before .before .before .before .standing .ensures) at (c .before .before .tick-on .ensures) in
-    (c .tick-face .ensures ∙ ap tickFace served, ap (λ (t : Ticked). t .state .store .ports) served)
+returns c = (c .tick-face .ensures ∙ ap tickFace (c .before .tick-on .ensures), ap (λ (t : Ticked). t .state) (c .before .tick-on .ensures))
 
 pub native-tick-spec : {M : Type 1} → statement M
 native-tick-spec =
-    tie.close (tie.spec standing-requires tick-on-requires tick-face-requires returns)
+    tie.close (tie.spec tick-on-requires tick-face-requires returns)

@@ -19,13 +19,13 @@ enum-known-ending-3 : tie.Need-enum-known-ending-3
 enum-known-ending-3 c = search needs
 
 returns : tie.Need-returns
-returns c = rw (← (c .before .before .before .before .before .before .sense .ensures)) (rw (c .before .ending .given .1) at (c .before .before .before .obey-all .ensures (now (c .before .before .before .before .before .before .before .before .before .before .before .before .before .before .before .args .ports))))
+returns c = rw (← (c .before .before .before .before .before .sense .ensures)) (rw (c .before .ending .given .1) at (c .before .before .before .obey-all .ensures (now (c .before .before .before .before .before .before .before .before .before .args .ports))))
 
 returns-2 : tie.Need-returns-2
-returns-2 c = rw (← (c .before .before .before .before .before .before .sense .ensures)) (rw (c .before .ending2 .given .1) at (c .before .before .before .obey-all .ensures (now (c .before .before .before .before .before .before .before .before .before .before .before .before .before .before .before .args .ports))))
+returns-2 c = rw (← (c .before .before .before .before .before .sense .ensures)) (rw (c .before .ending2 .given .1) at (c .before .before .before .obey-all .ensures (now (c .before .before .before .before .before .before .before .before .before .args .ports))))
 
 returns-3 : tie.Need-returns-3
-returns-3 c = rw (← (c .before .before .before .before .before .before .sense .ensures)) (rw (c .before .ending3 .given .1) at (c .before .before .before .obey-all .ensures (now (c .before .before .before .before .before .before .before .before .before .before .before .before .before .before .before .args .ports))))
+returns-3 c = rw (← (c .before .before .before .before .before .sense .ensures)) (rw (c .before .ending3 .given .1) at (c .before .before .before .obey-all .ensures (now (c .before .before .before .before .before .before .before .before .before .args .ports))))
 
 pub react-spec : {M : Type 1} → statement M
 react-spec =

@@ -9,13 +9,13 @@ has-requires : tie.Need-has-requires
 has-requires c κs = search needs
 
 returns : tie.Need-returns
-returns c = rw (sym (c .before .has .ensures) ∙ not-true _ (c .if1 .taken)) refl
+returns c = λ core. rw (sym (c .before .has .ensures) ∙ not-true _ (c .if1 .taken)) refl
 
 has-requires-2 : tie.Need-has-requires-2
 has-requires-2 c κs = search needs
 
 returns-2 : tie.Need-returns-2
-returns-2 c = rw (sym (c .before .before .before .has .ensures) ∙ not-false _ (c .before .before .if1 .left), sym (c .before .has2 .ensures) ∙ not-true _ (c .if2 .taken)) refl
+returns-2 c = λ core. rw (sym (c .before .before .before .has .ensures) ∙ not-false _ (c .before .before .if1 .left), sym (c .before .has2 .ensures) ∙ not-true _ (c .if2 .taken)) refl
 
 task-cell-requires : tie.Need-task-cell-requires
 task-cell-requires c κs = search needs
@@ -26,14 +26,8 @@ task-cell-requires-2 c κs = search needs
 hand-out-requires : tie.Need-hand-out-requires
 hand-out-requires c κs = search needs
 
-part-requires : tie.Need-part-requires
-part-requires c κs = search needs
-
-part-requires-2 : tie.Need-part-requires-2
-part-requires-2 c κs = search needs
-
 returns-3 : tie.Need-returns-3
-returns-3 c = rw (sym (c .before .before .before .before .before .before .before .before .before .has .ensures) ∙ not-false _ (c .before .before .before .before .before .before .before .before .if1 .left), sym (c .before .before .before .before .before .before .before .has2 .ensures) ∙ not-false _ (c .before .before .before .before .before .before .if2 .left), c .part2 .ensures, c .before .part .ensures, c .before .before .hand-out .ensures, c .before .before .before .before .task-cell2 .ensures, c .before .before .before .before .before .task-cell .ensures, lot-outputs, lot-results) refl
+returns-3 c = λ core. rw (sym (c .before .before .before .before .before .before .before .has .ensures) ∙ not-false _ (c .before .before .before .before .before .before .if1 .left), sym (c .before .before .before .before .before .has2 .ensures) ∙ not-false _ (c .before .before .before .before .if2 .left), c .hand-out .ensures, c .before .before .task-cell2 .ensures, c .before .before .before .task-cell .ensures, lot-outputs, lot-results, sym (c .before .before .before .before .before .before .before .has .ensures) ∙ not-false _ (c .before .before .before .before .before .before .if1 .left), sym (c .before .before .before .before .before .has2 .ensures) ∙ not-false _ (c .before .before .before .before .if2 .left)) refl
 
 pub terminate-spec : {M : Type 1} → statement M
 terminate-spec =
@@ -46,6 +40,4 @@ terminate-spec =
     task-cell-requires
     task-cell-requires-2
     hand-out-requires
-    part-requires
-    part-requires-2
     returns-3)
