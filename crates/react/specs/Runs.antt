@@ -19,7 +19,7 @@ use Rattle.steps.specs.declared.Ending.{Ending}
 use Rattle.steps.specs.declared.Ending.the-variants as E
 use Rattle.steps.specs.declared.Row.{Row}
 use Rattle.steps.specs.Rows.{reactive, instrBy, rowOf}
-use Rattle.steps.specs.Steps.{Core, After, Next, Ended, storeOf, promiseOf, endingBy, haltedBy, goes, Stepped, stepped, obey, stepOf}
+use Rattle.steps.specs.Steps.{Core, After, Next, Ended, storeOf, promiseOf, endingBy, haltedBy, haltedOf, goes, returned, Stepped, stepped, obey, stepOf}
 
 -- How a run ended; where it returned, also the ports and the number of instructions.
 pub record Shown : Type 0 where
@@ -177,6 +177,15 @@ module _ (b : Board) (aside : List ℕ) (before : List ℕ) where
 abbrev pub carries : ℕ → ℕ → Bool → ℕ → ℕ → ℕ → ℕ → ℕ → Core
 carries pc mode pledged next delay out waiting finished =
     record { pc = pc; mode = mode; pledged = pledged; next = next; delay = delay; out = out; waiting = waiting; finished = finished }
+
+-- a return: with no future it is fault 42
+abbrev pub leaving : Core → Bool → Ending
+leaving core true = E.Returned (haltedOf core)
+leaving core false = E.Fault 42
+
+pub leaves : (pc : ℕ) (core : Core) (ports : List ℕ) (pledged : Bool) → stepped (Ended (leaving core pledged)) ports ≡ stepped (returned (goes pc core) pledged) ports
+leaves pc core ports true = refl
+leaves pc core ports false = refl
 
 -- ---- the same over rows: a turn of the loop obeys the row where the core stands, or faults behind the last one
 module _ (n : ℕ) (code drivers guards modes tasks aside before : List ℕ) (whole : Shown) (steps : ℕ) (core : Core) (ports : List ℕ)

@@ -8,8 +8,8 @@ ghost use Prim.Native.Nat.{ℕ};
 ghost use Rattle.model.specs.Modules.{place as placed};
 ghost use Rattle.machine.specs.Store.{reaction};
 ghost use Rattle.steps.specs.Rows.{reactive};
-ghost use Rattle.steps.specs.declared.Ending.the-variants.{Returned, Late, Fault};
-ghost use Rattle.react.specs.Runs.{shown, shows, closes};
+ghost use Rattle.steps.specs.declared.Ending.the-variants.{Late, Fault};
+ghost use Rattle.react.specs.Runs.{shown, shows, closes, carries, leaving};
 use steps::Driven;
 use steps::Ending;
 use steps::Halted;
@@ -18,15 +18,6 @@ use steps::Halted;
 pub struct Ran {
     pub ending: Ending,
     pub steps: u32,
-}
-
-fn returned(halted: Halted, steps: u32) -> Ran
-    ensures { λ r. ⌜ r ≡ record { ending = Returned halted; steps = steps } ⌝ }
-{
-    Ran {
-        ending: Ending::Returned(halted),
-        steps: steps,
-    }
 }
 
 fn late(task: u32) -> Ran
@@ -44,6 +35,39 @@ fn faulty(number: u8) -> Ran
     Ran {
         ending: Ending::Fault(number),
         steps: 0,
+    }
+}
+
+// A return: with no future it is fault 42.
+fn leave(
+    pledged: bool,
+    mode: u32,
+    next: u32,
+    delay: u32,
+    out: u64,
+    waiting: u64,
+    finished: u64,
+    steps: u32,
+) -> Ran
+    ensures { λ r. ⌜ r ≡ record { ending = leaving (carries 0 mode pledged next delay out waiting finished) pledged; steps = steps } ⌝ }
+{
+    if pledged {
+        let halted = Halted {
+            mode: mode,
+            next: next,
+            delay: delay,
+            out: out,
+            waiting: waiting,
+            finished: finished,
+        };
+        return Ran {
+            ending: Ending::Returned(halted),
+            steps: steps,
+        };
+    }
+    Ran {
+        ending: Ending::Fault(42),
+        steps: steps,
     }
 }
 
@@ -123,18 +147,7 @@ fn obey_all<'a>(
                 at = first;
             }
             6 => {
-                if !pledged {
-                    return faulty(42);
-                }
-                let halted = Halted {
-                    mode: serving,
-                    next: next,
-                    delay: delay,
-                    out: released,
-                    waiting: waits,
-                    finished: done,
-                };
-                return returned(halted, steps);
+                return leave(pledged, serving, next, delay, released, waits, done, steps);
             }
             7 => {
                 serving = first;

@@ -1,4 +1,4 @@
-use Rattle.react.specs.Runs.{shown, runs, whole-run, over, carries, row-on, row-ends, row-none}
+use Rattle.react.specs.Runs.{shown, runs, whole-run, over, carries, leaving, leaves, row-on, row-ends, row-none}
 use Rattle.steps.specs.Rows.{reactive}
 use Rattle.guards.specs.Tabs.{length-tab}
 use Rattle.machine.specs.Store.{reaction}
@@ -145,19 +145,12 @@ loop-again-7 : tie.Need-loop-again-7 Inv-loop μ-loop
 loop-again-7 c = let a = c .before .before .before .before .before .before .args in let l = c .before .before .before .before .before .loop in let row = c .before .row-at .result in
     (omega arith, λ before. row-on (a .instructions) (now (a .code)) (now (a .drivers)) (now (a .guards)) (now (a .modes)) (now (a .tasks)) (now (a .aside)) before _ (l .steps) (carries (l .at) (l .serving) (l .pledged) (l .next) (l .delay) (l .released) (l .waits) (l .done)) (l .ports) (l .inv .1 before) (c .before .before .before .before .loop-test .taken) row (c .before .row-at .ensures) (c .before .before .before .if1 .left) (carries (row .first) (l .serving) (l .pledged) (l .next) (l .delay) (l .released) (l .waits) (l .done)) _ (rw (c .match .keys5) refl))
 
-faulty-requires-4 : tie.Need-faulty-requires-4 Inv-loop μ-loop
-faulty-requires-4 c κs = search needs
+leave-requires : tie.Need-leave-requires Inv-loop μ-loop
+leave-requires c κs = search needs
 
 returns-5 : tie.Need-returns-5 Inv-loop μ-loop
-returns-5 c = let a = c .before .before .before .before .before .before .before .before .args in let l = c .before .before .before .before .before .before .before .loop in let row = c .before .before .before .row-at .result in
-    λ before. rw (c .faulty4 .ensures) (row-ends (a .instructions) (now (a .code)) (now (a .drivers)) (now (a .guards)) (now (a .modes)) (now (a .tasks)) (now (a .aside)) before _ (l .steps) (carries (l .at) (l .serving) (l .pledged) (l .next) (l .delay) (l .released) (l .waits) (l .done)) (l .ports) (l .inv .1 before) (c .before .before .before .before .before .before .loop-test .taken) row (c .before .before .before .row-at .ensures) (c .before .before .before .before .before .if1 .left) (E.Fault 42) (l .ports) (rw (c .before .before .match .keys6, not-true (l .pledged) (c .before .if5 .taken)) refl))
-
-returned-requires : tie.Need-returned-requires Inv-loop μ-loop
-returned-requires c κs = search needs
-
-returns-6 : tie.Need-returns-6 Inv-loop μ-loop
-returns-6 c = let a = c .before .before .before .before .before .before .before .before .args in let l = c .before .before .before .before .before .before .before .loop in let row = c .before .before .before .row-at .result in
-    λ before. rw (c .returned .ensures) (row-ends (a .instructions) (now (a .code)) (now (a .drivers)) (now (a .guards)) (now (a .modes)) (now (a .tasks)) (now (a .aside)) before _ (l .steps) (carries (l .at) (l .serving) (l .pledged) (l .next) (l .delay) (l .released) (l .waits) (l .done)) (l .ports) (l .inv .1 before) (c .before .before .before .before .before .before .loop-test .taken) row (c .before .before .before .row-at .ensures) (c .before .before .before .before .before .if1 .left) (E.Returned (record { mode = l .serving; next = l .next; delay = l .delay; out = l .released; waiting = l .waits; finished = l .done })) (l .ports) (rw (c .before .before .match .keys6, not-false (l .pledged) (c .before .if5 .left)) refl))
+returns-5 c = let a = c .before .before .before .before .before .before .before .args in let l = c .before .before .before .before .before .before .loop in let row = c .before .before .row-at .result in
+    λ before. rw (c .leave .ensures) (row-ends (a .instructions) (now (a .code)) (now (a .drivers)) (now (a .guards)) (now (a .modes)) (now (a .tasks)) (now (a .aside)) before _ (l .steps) (carries (l .at) (l .serving) (l .pledged) (l .next) (l .delay) (l .released) (l .waits) (l .done)) (l .ports) (l .inv .1 before) (c .before .before .before .before .before .loop-test .taken) row (c .before .before .row-at .ensures) (c .before .before .before .before .if1 .left) (leaving (carries 0 (l .serving) (l .pledged) (l .next) (l .delay) (l .released) (l .waits) (l .done)) (l .pledged)) (l .ports) (rw (c .before .match .keys6) (leaves (l .at + 1) (carries 0 (l .serving) (l .pledged) (l .next) (l .delay) (l .released) (l .waits) (l .done)) (l .ports) (l .pledged))))
 
 begin-of-requires : tie.Need-begin-of-requires Inv-loop μ-loop
 begin-of-requires c κs = search needs
@@ -176,12 +169,12 @@ loop-again-9 : tie.Need-loop-again-9 Inv-loop μ-loop
 loop-again-9 c = let a = c .before .before .before .before .before .before .args in let l = c .before .before .before .before .before .loop in let row = c .before .row-at .result in
     (omega arith, λ before. row-on (a .instructions) (now (a .code)) (now (a .drivers)) (now (a .guards)) (now (a .modes)) (now (a .tasks)) (now (a .aside)) before _ (l .steps) (carries (l .at) (l .serving) (l .pledged) (l .next) (l .delay) (l .released) (l .waits) (l .done)) (l .ports) (l .inv .1 before) (c .before .before .before .before .loop-test .taken) row (c .before .row-at .ensures) (c .before .before .before .if1 .left) (carries (l .at + 1) (l .serving) (l .pledged) (l .next) (l .delay) (l .released) (l .waits) (l .done)) _ (let r = c .match .rest in rw (ne-eqb _ 1 (r .0 .0 .0 .0 .0 .0 .1), ne-eqb _ 2 (r .0 .0 .0 .0 .0 .1), ne-eqb _ 3 (r .0 .0 .0 .0 .1), ne-eqb _ 4 (r .0 .0 .0 .1), ne-eqb _ 5 (r .0 .0 .1), ne-eqb _ 6 (r .0 .1), ne-eqb _ 7 (r .1)) refl))
 
-faulty-requires-5 : tie.Need-faulty-requires-5 Inv-loop μ-loop
-faulty-requires-5 c κs = search needs
+faulty-requires-4 : tie.Need-faulty-requires-4 Inv-loop μ-loop
+faulty-requires-4 c κs = search needs
 
-returns-7 : tie.Need-returns-7 Inv-loop μ-loop
-returns-7 c = let a = c .before .before .before .args in let l = c .before .before .loop in
-    λ before. rw (c .faulty5 .ensures) (over (reactive (a .instructions) (now (a .code)) (now (a .drivers)) (now (a .guards)) (now (a .modes)) (now (a .tasks))) (now (a .aside)) before _ _ (l .steps) (carries (l .at) (l .serving) (l .pledged) (l .next) (l .delay) (l .released) (l .waits) (l .done)) (l .ports) (l .inv .1 before) (c .before .loop-test .left) (l .ports))
+returns-6 : tie.Need-returns-6 Inv-loop μ-loop
+returns-6 c = let a = c .before .before .before .args in let l = c .before .before .loop in
+    λ before. rw (c .faulty4 .ensures) (over (reactive (a .instructions) (now (a .code)) (now (a .drivers)) (now (a .guards)) (now (a .modes)) (now (a .tasks))) (now (a .aside)) before _ _ (l .steps) (carries (l .at) (l .serving) (l .pledged) (l .next) (l .delay) (l .released) (l .waits) (l .done)) (l .ports) (l .inv .1 before) (c .before .loop-test .left) (l .ports))
 
 pub obey-all-spec : {M : Type 1} → statement M
 obey-all-spec =
@@ -226,14 +219,12 @@ obey-all-spec =
     loop-again-6
     loop-less-7
     loop-again-7
-    faulty-requires-4
+    leave-requires
     returns-5
-    returned-requires
-    returns-6
     begin-of-requires
     loop-less-8
     loop-again-8
     loop-less-9
     loop-again-9
-    faulty-requires-5
-    returns-7)
+    faulty-requires-4
+    returns-6)
