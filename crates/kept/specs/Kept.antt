@@ -4,7 +4,6 @@ use mathlib.Core.Path.{_≡_}
 use mathlib.Core.List.{List}
 use lib.ListN.{getD, take, drop}
 use Rattle.text.specs.declared.State.{State}
-use Rattle.text.specs.declared.ReadItem.{ReadItem}
 use Rattle.text.specs.Items.{itemAt}
 use Rattle.kept.specs.Rows.{stateOf, readOf}
 
@@ -20,6 +19,13 @@ Right s row = readOf row ≡ itemAt s (stateOf (getD row 1 0)) (getD row 2 0)
 pub record Kept (s memo : List ℕ) : Type 0 where
   pub each : (k : ℕ) → k < getD memo 0 0 → Right s (rowOf memo k)
 
--- what was read at a place, in a state, is kept too, where there is room
-pub record Keeps (state : State) (at : ℕ) (read : ReadItem) (memo after : List ℕ) : Type 0 where
-  pub on : (s : List ℕ) → read ≡ itemAt s state at → Kept s memo → Kept s after
+-- a row is the item of the text at this place, in this state, whose number it has; and what state is behind it
+pub record Laid (s : List ℕ) (state : State) (before at : ℕ) (row : List ℕ) (behind : State) : Type 0 where
+  pub told : readOf row ≡ itemAt s state at
+  pub number : getD row 1 0 ≡ before
+  pub place : getD row 2 0 ≡ at
+  pub next : stateOf (getD row 3 0) ≡ behind
+
+-- a row is kept too, where there is room
+pub record Keeps (row memo after : List ℕ) : Type 0 where
+  pub on : (s : List ℕ) → Right s row → Kept s memo → Kept s after

@@ -1,25 +1,22 @@
 -- Laws of rows: the last of each kind, and one row more in an array.
 use Prim.Native.Nat.{ℕ, zero, suc, _+_, _-_, _*_, _%_, _≤_, _<_}
 use mathlib.Core.Path.{_≡_, refl, sym, ap, _∙_}
-use mathlib.Core.List.{List, [], _∷_, _++_, append-nil}
+use mathlib.Core.List.{List, [], _∷_, _++_, append-nil, append-assoc}
 use mathlib.Core.Bool.{Bool, true, false}
 use native.Mathlib.Omega.{arith}
 use borrow.Author.Tests.{ltb-true, ltb-false}
+use borrow.Rule.Slice.PartMut.{putMid, post-is}
 use lib.Dec.{ltb}
 use lib.ListN.{length, getD, set, take, drop, length-append, drop-of-length-le, List·getD-eq-default}
 use lib.Seq.{sets, sets-eq, length-sets, length-take-le, take-at, drop-at, drop-append-le, drop-set-lt, drop-set-add, take-set-le, getD-set-same, drop-cons}
-use Rattle.text.specs.declared.Name.{Name}
 use Rattle.text.specs.declared.State.{State}
 use Rattle.text.specs.declared.State.the-variants as Q
-use Rattle.text.specs.declared.Literal.{Literal}
 use Rattle.text.specs.declared.Literal.the-variants as L
 use Rattle.text.specs.declared.Item.the-variants as I
 use Rattle.text.specs.declared.ReadItem.{ReadItem}
 use Rattle.text.specs.Items.{itemAt}
-use Rattle.kept.specs.declared.storing.Fields.{Fields}
-use Rattle.kept.specs.declared.storing.Value.{Value}
-use Rattle.kept.specs.Rows.{states, stateOf, nameOf, literals, literalOf, declarations, declarationOf, acts, actOf, itemOf, readOf, shortOf, longOf, numbers}
-use Rattle.kept.specs.Kept.{rowOf, Right, Kept, Keeps}
+use Rattle.kept.specs.Rows.{Fields, fieldsIn, itemOf, states, stateOf, nameOf, literals, literalOf, declarations, declarationOf, acts, actOf, readOf}
+use Rattle.kept.specs.Kept.{rowOf, Right, Kept, Laid, Keeps}
 
 -- row k as it is lent, from its start up to its end
 abbrev pub lentOf : List ℕ → ℕ → List ℕ
@@ -51,37 +48,6 @@ byte-of w = omega (arith, w .0, w .1)
 pub beyond : (k : ℕ) {n : ℕ} → k ≤ n → (n ≡ k → ⊥) → k + 1 ≤ n
 beyond k h e = omega (arith, e)
 
--- ---- the numbers of an item give it back
-
-pub module-back : (name : Name) → itemOf (shortOf 0 (name .start) (name .end) 0 0 0 0 0) ≡ I.Module name
-unfolding itemOf declarationOf
-module-back name = refl
-
-module _ (value : Literal) (v : Value) (e : literalOf (v .kind) (v .at) (v .flag) (v .start) (v .end) ≡ value) where
-  pub constant-back : (name : Name) → itemOf (shortOf 2 (name .start) (name .end) (v .kind) (v .at) (v .flag) (v .start) (v .end)) ≡ I.Constant name value
-  unfolding itemOf declarationOf
-  constant-back name = ap (λ (l : Literal). I.Constant name l) e
-
-  pub actuator-back : (typ name setter : Name) → itemOf (longOf 4 typ name v setter) ≡ I.Actuator typ name value setter
-  unfolding itemOf declarationOf
-  actuator-back typ name setter = ap (λ (l : Literal). I.Actuator typ name l setter) e
-
-  pub output-back : (typ name last : Name) → itemOf (longOf 7 typ name v last) ≡ I.Output typ name value
-  unfolding itemOf declarationOf
-  output-back typ name last = ap (λ (l : Literal). I.Output typ name l) e
-
-pub sensor-back : (typ name getter : Name) → itemOf (shortOf 3 (typ .start) (typ .end) (name .start) (name .end) (getter .start) (getter .end) 0) ≡ I.Sensor typ name getter
-unfolding itemOf declarationOf
-sensor-back typ name getter = refl
-
-pub task-back : (name : Name) → itemOf (shortOf 5 (name .start) (name .end) 0 0 0 0 0) ≡ I.TaskBegin name
-unfolding itemOf declarationOf
-task-back name = refl
-
-pub input-back : (typ name last : Name) → itemOf (shortOf 6 (typ .start) (typ .end) (name .start) (name .end) (last .start) (last .end) 0) ≡ I.Input typ name
-unfolding itemOf declarationOf
-input-back typ name last = refl
-
 -- ---- a run of numbers written into an array
 
 run-new : (memo new : List ℕ) (at : ℕ) → at + length new ≤ length memo → take (length new) (drop at (sets memo at new)) ≡ new
@@ -98,18 +64,6 @@ set-before l i j n a h =
 run-before : (new memo : List ℕ) (at j n : ℕ) → j + n ≤ at → take n (drop j (sets memo at new)) ≡ take n (drop j memo)
 run-before [] memo at j n h = refl
 run-before (a ∷ new) memo at j n h = run-before new (set memo at a) (suc at) j n (omega arith) ∙ set-before memo at j n a h
-
-sets-both : (a b memo : List ℕ) (at n : ℕ) → length a ≡ n → sets (sets memo at a) (at + n) b ≡ sets memo at (a ++ b)
-sets-both [] b memo at n e = let z : at + n ≡ at = omega (arith, e) in rw z
-sets-both (x ∷ a) b memo at n e =
-    let z : at + n ≡ suc at + (n - 1) = omega (arith, e) in
-    rw z (sets-both a b (set memo at x) (suc at) (n - 1) (omega (arith, e)))
-
--- four runs of four numbers
-pub fours : (memo : List ℕ) (at : ℕ) (a b c d : List ℕ) → length a ≡ 4 → length b ≡ 4 → length c ≡ 4
-    → sets (sets (sets (sets memo at a) (at + 4) b) (at + 4 + 4) c) (at + 4 + 4 + 4) d ≡ sets memo at (a ++ (b ++ (c ++ d)))
-fours memo at a b c d k l m =
-    sets-both c d (sets (sets memo at a) (at + 4) b) (at + 4 + 4) 4 m ∙ sets-both b (c ++ d) (sets memo at a) (at + 4) 4 l ∙ sets-both a (b ++ (c ++ d)) memo at 4 k
 
 -- ---- one row more
 
@@ -133,20 +87,24 @@ module _ (memo new : List ℕ) (many : ℕ) (long : length new ≡ 16) (h : many
       rw (drop-set-lt (k * 16 + 16) (sets memo (many * 16 + 16) new) 0 (many + 1) (omega arith))
       (run-before new memo (many * 16 + 16) (k * 16 + 16) 16 (omega arith))
 
--- what was read is kept in a row more
-pub row-keeps : (memo : List ℕ) (many : ℕ) (state : State) (at : ℕ) (read : ReadItem) (before behind : ℕ) (f : Fields) → many ≡ getD memo 0 0 → many * 16 + 32 ≤ length memo
-    → itemOf f ≡ read .item → stateOf before ≡ state → stateOf behind ≡ read .state
-    → Keeps state at read memo (set (sets memo (many * 16 + 16) (numbers before at behind (read .next) f)) 0 (many + 1))
-row-keeps memo many state at read before behind f m h i b n = record { on = λ s e kept. record { each = λ k l. by s e kept k (ltb k many) refl (rw (more-count memo new many refl h) at l) } }
+-- a row that is right is kept in a row more
+pub row-keeps : (memo row : List ℕ) (many : ℕ) → length row ≡ 16 → many ≡ getD memo 0 0 → many * 16 + 32 ≤ length memo → Keeps row memo (set (sets memo (many * 16 + 16) row) 0 (many + 1))
+row-keeps memo row many long m h = record { on = λ s right kept. record { each = λ k l. by s right kept k (ltb k many) refl (rw (more-count memo row many long h) at l) } }
   where
-    new : List ℕ
-    new = numbers before at behind (read .next) f
-
-    by : (s : List ℕ) → read ≡ itemAt s state at → Kept s memo → (k : ℕ) (c : Bool) → ltb k many ≡ c → k < many + 1 → Right s (rowOf (more memo new many refl h) k)
-    by s e kept k true c l = rw (more-first memo new many refl h k (ltb-true k many c)) (kept .each k (rw m at (ltb-true k many c)))
-    by s e kept k false c l =
+    by : (s : List ℕ) → Right s row → Kept s memo → (k : ℕ) (c : Bool) → ltb k many ≡ c → k < many + 1 → Right s (rowOf (more memo row many long h) k)
+    by s right kept k true c l = rw (more-first memo row many long h k (ltb-true k many c)) (kept .each k (rw m at (ltb-true k many c)))
+    by s right kept k false c l =
         let same : k ≡ many = omega (arith, ltb-false k many c) in
-        rw (same, more-last memo new many refl h, i, b, n) e
+        rw (same, more-last memo row many long h) right
+
+-- the same with the row put into the part that was lent for it
+pub lent-keeps : (memo row : List ℕ) (many : ℕ) → length row ≡ 16 → many ≡ getD memo 0 0 → many * 16 + 32 ≤ length memo
+    → Keeps row memo (set (putMid (many * 16 + 16) (many * 16 + 16 + 16 - (many * 16 + 16)) memo row) 0 (many + 1))
+lent-keeps memo row many long m h =
+    let first = many * 16 + 16 in
+    let whole-row : first + length row ≡ first + 16 = omega (arith, long) in
+    let put : sets memo first row ≡ take first memo ++ (row ++ drop (first + 16) memo) = sets-eq row memo first (omega (arith, long)) ∙ append-assoc (take first memo) row (drop (first + length row) memo) ∙ ap (λ (n : ℕ). take first memo ++ (row ++ drop n memo)) whole-row in
+    rw (post-is first (first + 16) memo (omega arith), ← put) (row-keeps memo row many long m h)
 
 -- what row k tells, where it was read at this place and in this state
 pub fetched : {s memo : List ℕ} (k : ℕ) {state : State} {at : ℕ} {r : ReadItem} → Kept s memo → k < getD memo 0 0 → r ≡ readOf (lentOf memo k) → stateOf (getD (lentOf memo k) 1 0) ≡ state → getD (lentOf memo k) 2 0 ≡ at
@@ -172,10 +130,29 @@ numbers-from : (i n : ℕ) (l : List ℕ) → i + n ≡ length l → drop i l �
 numbers-from i zero l e = drop-of-length-le l {i = i} (omega arith)
 numbers-from i (suc n) l e = drop-cons l i 0 (omega arith) ∙ ap (λ (m : List ℕ). getD l i 0 ∷ m) (numbers-from (suc i) n l (omega arith))
 
+-- a row by its numbers
+pub whole : (row : List ℕ) → length row ≡ 16 → row ≡ numbersFrom 0 16 row
+whole row e = numbers-from 0 16 row (sym e)
+
 -- numbers written over all of a row
-pub over : (new row : List ℕ) → length row ≡ length new → sets row 0 new ≡ new
+over : (new row : List ℕ) → length row ≡ length new → sets row 0 new ≡ new
 over new row e = sets-eq new row 0 (omega arith) ∙ rw (drop-of-length-le row {i = 0 + length new} (omega arith)) (append-nil new)
 
 -- a row whose numbers are each set to those of another
 pub all-set : (from row : List ℕ) → length from ≡ 16 → length row ≡ 16 → sets row 0 (numbersFrom 0 16 from) ≡ from
 all-set from row e h = ap (λ (l : List ℕ). sets row 0 l) (sym (numbers-from 0 16 from (sym e))) ∙ over from row (h ∙ sym e)
+
+-- the numbers of the states and the places beside those of an item
+pub laid-by : {s : List ℕ} {state : State} {at : ℕ} (before : ℕ) (row : List ℕ) (r : ReadItem) (n : ℕ) → length row ≡ 16 → r ≡ itemAt s state at → itemOf (fieldsIn row) ≡ r .item → stateOf n ≡ r .state
+    → Laid s state before at (sets row 1 (before ∷ at ∷ n ∷ r .next ∷ [])) (r .state)
+laid-by before row r n long p i q =
+    record {
+      told = rw (whole row long) (rw (i, q) p);
+      number = rw (whole row long);
+      place = rw (whole row long);
+      next = rw (whole row long) q;
+    }
+
+-- such a row is right
+pub laid-right : {s : List ℕ} {state : State} {before at : ℕ} {row : List ℕ} {behind : State} → Laid s state before at row behind → stateOf before ≡ state → Right s row
+laid-right l q = rw (l .number, l .place, q) (l .told)

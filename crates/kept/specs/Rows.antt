@@ -13,8 +13,21 @@ use Rattle.text.specs.declared.State.the-variants as Q
 use Rattle.text.specs.declared.Item.{Item}
 use Rattle.text.specs.declared.Item.the-variants as I
 use Rattle.text.specs.declared.ReadItem.{ReadItem}
-use Rattle.kept.specs.declared.storing.Fields.{Fields}
-use Rattle.kept.specs.declared.storing.Value.{Value}
+
+-- An item in twelve numbers: which kind, and what it holds.
+pub record Fields : Type 0 where
+  pub kind : ℕ
+  pub one : ℕ
+  pub two : ℕ
+  pub three : ℕ
+  pub four : ℕ
+  pub five : ℕ
+  pub six : ℕ
+  pub seven : ℕ
+  pub eight : ℕ
+  pub nine : ℕ
+  pub ten : ℕ
+  pub eleven : ℕ
 
 -- the states of a section but the last
 abbrev pub states : ℕ → List State
@@ -115,31 +128,3 @@ fieldsIn row =
 -- the item of a row, and the state and the place behind it
 abbrev pub readOf : List ℕ → ReadItem
 readOf row = record { item = itemOf (fieldsIn row); state = stateOf (getD row 3 0); next = getD row 4 0 }
-
--- the sixteen numbers of a row
-abbrev pub numbers : ℕ → ℕ → ℕ → ℕ → Fields → List ℕ
-numbers before place behind next f =
-    f .kind ∷ before ∷ place ∷ behind ∷ next ∷ f .one ∷ f .two ∷ f .three ∷ f .four ∷ f .five ∷ f .six ∷ f .seven ∷ f .eight ∷ f .nine ∷ f .ten ∷ f .eleven ∷ []
-
--- twelve numbers, of which the last four are 0
-abbrev pub shortOf : ℕ → ℕ → ℕ → ℕ → ℕ → ℕ → ℕ → ℕ → Fields
-shortOf kind a b c d e f g =
-    record { kind = kind; one = a; two = b; three = c; four = d; five = e; six = f; seven = g; eight = 0; nine = 0; ten = 0; eleven = 0 }
-
--- twelve numbers of two names, a value and a name
-abbrev pub longOf : ℕ → Name → Name → Value → Name → Fields
-longOf kind typ name value last =
-    record {
-      kind = kind;
-      one = typ .start;
-      two = typ .end;
-      three = name .start;
-      four = name .end;
-      five = value .kind;
-      six = value .at;
-      seven = value .flag;
-      eight = value .start;
-      nine = value .end;
-      ten = last .start;
-      eleven = last .end;
-    }

@@ -1,28 +1,14 @@
-// What a row of sixteen numbers tells: an item, the state and the place behind it, and where and in which state it was read.
+// What a row of sixteen numbers tells: an item, and the state and the place behind it.
 ghost use Prim.Native.Nat.{_+_, _≤_};
 ghost use lib.ListN.{length, getD};
-ghost use mathlib.Core.Bool.{true};
 ghost use mathlib.Core.Path.{_≡_};
-ghost use Rattle.kept.specs.Rows.{nameAt, literalAt, portAt, declarationOf, actOf, fieldsIn, itemOf, stateOf, readOf};
+ghost use Rattle.kept.specs.Rows.{nameAt, literalAt, portAt, declarationOf, actOf, fieldsIn, itemOf, readOf};
 use super::states;
 use text::Item;
 use text::Literal;
 use text::Name;
 use text::Port;
 use text::ReadItem;
-use text::State;
-
-// Whether a row was read at a place, in a state.
-pub(crate) fn is_of(row: &[usize], state: State, at: usize) -> bool
-    requires { ⌜ length (now row) ≡ 16 ⌝ }
-    ensures { λ r. ⌜ (r ≡ true → (stateOf (getD (now (row .entry)) 1 0) ≡ state) × (getD (now (row .entry)) 2 0 ≡ at)) ⌝ }
-{
-    if row[2] == at {
-        let number = states::number_of(state);
-        return row[1] == number;
-    }
-    false
-}
 
 pub(crate) fn name(row: &[usize], at: usize) -> Name
     requires { ⌜ at + 2 ≤ length (now row) ⌝ }
@@ -164,8 +150,7 @@ fn item(row: &[usize]) -> Item
 }
 
 // The item of a row, and the state and the place behind it.
-pub(crate) fn read(row: &[usize]) -> ReadItem
-    requires { ⌜ length (now row) ≡ 16 ⌝ }
+pub(crate) fn read(row: &[usize; 16]) -> ReadItem
     ensures { λ r. ⌜ r ≡ readOf (now (row .entry)) ⌝ }
 {
     let found = item(row);

@@ -48,16 +48,18 @@ fn held(memo: &[usize]) -> usize
 pub fn item<'a>(s: &'a [u8], memo: &'a [usize], k: usize, state: State, at: usize) -> ReadItem
     ensures { λ r. ⌜ (Kept (now (s .entry)) (now (memo .entry)) → r ≡ itemAt (now (s .entry)) state at) ⌝ }
 {
-    let rows = held(memo);
-    if k < rows {
-        let first = k * 16 + 16;
-        let end = first + 16;
-        let row = &memo[first..end];
-        if fetching::is_of(row, state, at) {
-            return fetching::read(row);
-        }
-    }
-    items::item(s, state, at)
+    let mut row = [0usize; 16];
+    let number = states::number_of(state);
+    fetch(s, memo, k, number, at, &mut row);
+    fetching::read(&row)
+}
+
+// The row of the item that is read at a place, in a state by its number.
+fn anew(s: &[u8], number: usize, at: usize, row: &mut [usize; 16])
+    ensures { λ _. ⌜ readOf (now (row .exit)) ≡ itemAt (now (s .entry)) (stateOf number) at ⌝ }
+{
+    let state = states::state_of(number);
+    let _behind = storing::read(s, state, number, at, row);
 }
 
 // The row of the item at a place, in a state by its number: row k where it is of this place and state, or else read anew.
@@ -83,5 +85,5 @@ pub fn fetch<'a>(
             }
         }
     }
-    storing::anew(s, state, at, row);
+    anew(s, state, at, row);
 }

@@ -4,9 +4,9 @@ ghost use mathlib.Core.Path.{_≡_};
 ghost use Rattle.text.specs.Items.{syntaxOf};
 ghost use Rattle.items.specs.Answers.{answered};
 ghost use Rattle.kept.specs.Kept.{Kept};
+use super::rows;
 use super::storing;
 use items::FirstPass;
-use text::Item;
 use text::State;
 
 // No row.
@@ -24,24 +24,24 @@ fn walk(s: &[u8], memo: &mut [usize]) -> FirstPass
     ensures answer { λ r. ⌜ r ≡ answered (syntaxOf (now (s .entry))) ⌝ }
     ensures kept { λ _. ⌜ Kept (now (s .entry)) (now (memo .exit)) ⌝ }
 {
+    let mut row = [0usize; 16];
     let mut state = State::Begin;
     let mut at = 0;
     while at <= s.len() {
-        let read = items::item(s, state, at);
-        storing::keep(memo, state, at, read);
-        let found = read.item;
-        if let Item::No { number, at: place } = found {
+        let before = row[3];
+        let behind = storing::read(s, state, before, at, &mut row);
+        rows::keep(memo, &row);
+        if 19 < row[0] {
             return FirstPass::Refused {
-                number: number,
-                at: place,
+                number: rows::section(&row),
+                at: row[8],
             };
         }
-        if let Item::End = found {
+        if row[0] == 19 {
             return FirstPass::Fine;
         }
-        let behind = read.state;
         state = behind;
-        at = read.next;
+        at = row[4];
     }
     FirstPass::Fine
 }

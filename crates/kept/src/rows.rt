@@ -1,35 +1,54 @@
-// A row by itself: its numbers copied, and what stands at the places of its item.
-ghost use Prim.Native.Nat.{_%_};
+// A row by itself: its numbers copied and kept, and what stands at the places of its item.
+ghost use Prim.Native.Nat.{_+_, _%_, _≤_};
 ghost use lib.ListN.{length, getD};
+ghost use lib.Seq.{sets};
+ghost use mathlib.Core.List.{[], _∷_};
 ghost use mathlib.Core.Path.{_≡_};
 ghost use Rattle.kept.specs.Rows.{nameAt, literalAt, portAt};
+ghost use Rattle.kept.specs.Kept.{Keeps};
 use super::fetching;
 use super::states;
 use text::Literal;
 use text::Name;
 use text::Port;
 
+// Four numbers from a place on.
+fn put(row: &mut [usize], at: usize, one: usize, two: usize, three: usize, four: usize)
+    requires { ⌜ at + 4 ≤ length (now row) ⌝ }
+    ensures { λ _. ⌜ now (row .exit) ≡ sets (now (row .entry)) at (one ∷ two ∷ three ∷ four ∷ []) ⌝ }
+{
+    row[at] = one;
+    row[at + 1] = two;
+    row[at + 2] = three;
+    row[at + 3] = four;
+}
+
 // The numbers of a row that is lent.
 pub(crate) fn copied(from: &[usize], row: &mut [usize])
     requires { ⌜ (length (now from) ≡ 16) × (length (now row) ≡ 16) ⌝ }
     ensures { λ _. ⌜ now (row .exit) ≡ now (from .entry) ⌝ }
 {
-    row[0] = from[0];
-    row[1] = from[1];
-    row[2] = from[2];
-    row[3] = from[3];
-    row[4] = from[4];
-    row[5] = from[5];
-    row[6] = from[6];
-    row[7] = from[7];
-    row[8] = from[8];
-    row[9] = from[9];
-    row[10] = from[10];
-    row[11] = from[11];
-    row[12] = from[12];
-    row[13] = from[13];
-    row[14] = from[14];
-    row[15] = from[15];
+    put(row, 0, from[0], from[1], from[2], from[3]);
+    put(row, 4, from[4], from[5], from[6], from[7]);
+    put(row, 8, from[8], from[9], from[10], from[11]);
+    put(row, 12, from[12], from[13], from[14], from[15]);
+}
+
+// One row more, where there is room.
+pub(crate) fn keep(memo: &mut [usize], row: &[usize; 16])
+    ensures { λ _. ⌜ Keeps (now (row .entry)) (now (memo .entry)) (now (memo .exit)) ⌝ }
+{
+    if memo.len() < 16 {
+        return;
+    }
+    let many = memo[0];
+    if (memo.len() - 16) / 16 <= many {
+        return;
+    }
+    let first = many * 16 + 16;
+    let end = first + 16;
+    copied(row, &mut memo[first..end]);
+    memo[0] = many + 1;
 }
 
 // The name that an item has first.

@@ -1,20 +1,15 @@
-// A row of sixteen numbers from an item, and one row more in the array.
-ghost use Prim.Native.Nat.{_+_, _≤_};
+// A row of sixteen numbers from an item.
+ghost use Prim.Native.Nat.{_%_};
 ghost use lib.Dec.{eqb};
-ghost use lib.ListN.{length};
-ghost use lib.Seq.{sets};
-ghost use mathlib.Core.List.{[], _∷_};
+ghost use lib.ListN.{length, getD};
 ghost use mathlib.Core.Path.{_≡_};
-ghost use Rattle.text.specs.declared.Item.the-variants.{Constant, ModeBegin, Update};
-ghost use Rattle.text.specs.Items.{itemAt};
-ghost use Rattle.kept.specs.Rows.{literalOf, itemOf, stateOf, readOf, shortOf, longOf, numbers};
-ghost use Rattle.kept.specs.Kept.{Keeps};
+ghost use Rattle.kept.specs.Rows.{nameAt, literalAt, portAt, literalOf, itemOf, fieldsIn};
+ghost use Rattle.kept.specs.Kept.{Laid};
 use super::states;
 use text::Item;
 use text::Literal;
 use text::Name;
 use text::Port;
-use text::ReadItem;
 use text::State;
 
 // A value in five numbers: which kind, its place, its flag, and where its name or its digits start and end.
@@ -24,22 +19,6 @@ pub(crate) struct Value {
     pub(crate) flag: usize,
     pub(crate) start: usize,
     pub(crate) end: usize,
-}
-
-// An item in twelve numbers: which kind, and what it holds.
-pub(crate) struct Fields {
-    pub(crate) kind: usize,
-    pub(crate) one: usize,
-    pub(crate) two: usize,
-    pub(crate) three: usize,
-    pub(crate) four: usize,
-    pub(crate) five: usize,
-    pub(crate) six: usize,
-    pub(crate) seven: usize,
-    pub(crate) eight: usize,
-    pub(crate) nine: usize,
-    pub(crate) ten: usize,
-    pub(crate) eleven: usize,
 }
 
 fn bit(yes: bool) -> usize
@@ -86,276 +65,210 @@ fn value_of(literal: Literal) -> Value
     }
 }
 
-// An item that holds at most seven numbers.
-fn short(
-    kind: usize,
-    one: usize,
-    two: usize,
-    three: usize,
-    four: usize,
-    five: usize,
-    six: usize,
-    seven: usize,
-) -> Fields
-    ensures { λ r. ⌜ r ≡ shortOf kind one two three four five six seven ⌝ }
+// A kind alone.
+fn plain(row: &mut [usize], kind: usize)
+    requires { ⌜ length (now row) ≡ 16 ⌝ }
+    ensures { λ _. ⌜ getD (now (row .exit)) 0 0 ≡ kind ⌝ }
 {
-    Fields {
-        kind: kind,
-        one: one,
-        two: two,
-        three: three,
-        four: four,
-        five: five,
-        six: six,
-        seven: seven,
-        eight: 0,
-        nine: 0,
-        ten: 0,
-        eleven: 0,
-    }
+    row[0] = kind;
 }
 
-// An item that holds two names, a value, and one name more.
-fn long(kind: usize, typ: Name, name: Name, value: Value, last: Name) -> Fields
-    ensures { λ r. ⌜ r ≡ longOf kind typ name value last ⌝ }
+// A kind and a name.
+fn named(row: &mut [usize], kind: usize, name: Name)
+    requires { ⌜ length (now row) ≡ 16 ⌝ }
+    ensures { λ _. ⌜ (getD (now (row .exit)) 0 0 ≡ kind) × (nameAt (now (row .exit)) 5 ≡ name) ⌝ }
 {
-    Fields {
-        kind: kind,
-        one: typ.start,
-        two: typ.end,
-        three: name.start,
-        four: name.end,
-        five: value.kind,
-        six: value.at,
-        seven: value.flag,
-        eight: value.start,
-        nine: value.end,
-        ten: last.start,
-        eleven: last.end,
-    }
+    row[0] = kind;
+    row[5] = name.start;
+    row[6] = name.end;
 }
 
-// An item that holds a name.
-fn named(kind: usize, name: Name) -> Fields
-    ensures { λ r. ⌜ r ≡ shortOf kind (name .start) (name .end) 0 0 0 0 0 ⌝ }
+// A kind, a name, and a number.
+fn counted(row: &mut [usize], kind: usize, name: Name, count: usize)
+    requires { ⌜ length (now row) ≡ 16 ⌝ }
+    ensures { λ _. ⌜ (getD (now (row .exit)) 0 0 ≡ kind) × (nameAt (now (row .exit)) 5 ≡ name) × (getD (now (row .exit)) 7 0 ≡ count) ⌝ }
 {
-    short(kind, name.start, name.end, 0, 0, 0, 0, 0)
+    row[0] = kind;
+    row[5] = name.start;
+    row[6] = name.end;
+    row[7] = count;
 }
 
-// An item that holds three names.
-fn typed(kind: usize, typ: Name, name: Name, last: Name) -> Fields
-    ensures { λ r. ⌜ r ≡ shortOf kind (typ .start) (typ .end) (name .start) (name .end) (last .start) (last .end) 0 ⌝ }
+// A kind and three names.
+fn typed(row: &mut [usize], kind: usize, typ: Name, name: Name, last: Name)
+    requires { ⌜ length (now row) ≡ 16 ⌝ }
+    ensures { λ _. ⌜ (getD (now (row .exit)) 0 0 ≡ kind) × (nameAt (now (row .exit)) 5 ≡ typ) × (nameAt (now (row .exit)) 7 ≡ name) × (nameAt (now (row .exit)) 9 ≡ last) ⌝ }
 {
-    short(
-        kind,
-        typ.start,
-        typ.end,
-        name.start,
-        name.end,
-        last.start,
-        last.end,
-        0,
-    )
+    row[0] = kind;
+    row[5] = typ.start;
+    row[6] = typ.end;
+    row[7] = name.start;
+    row[8] = name.end;
+    row[9] = last.start;
+    row[10] = last.end;
 }
 
-fn constant(name: Name, literal: Literal) -> Fields
-    ensures { λ r. ⌜ itemOf r ≡ Constant name literal ⌝ }
+// A kind, two names, a value, and one name more.
+fn long(row: &mut [usize], kind: usize, typ: Name, name: Name, literal: Literal, last: Name)
+    requires { ⌜ length (now row) ≡ 16 ⌝ }
+    ensures { λ _. ⌜ (getD (now (row .exit)) 0 0 ≡ kind) × (nameAt (now (row .exit)) 5 ≡ typ) × (nameAt (now (row .exit)) 7 ≡ name) × (literalAt (now (row .exit)) 9 ≡ literal) × (nameAt (now (row .exit)) 14 ≡ last) ⌝ }
 {
-    let v = value_of(literal);
-    short(
-        2,
-        name.start,
-        name.end,
-        v.kind,
-        v.at,
-        v.flag,
-        v.start,
-        v.end,
-    )
+    let value = value_of(literal);
+    row[0] = kind;
+    row[5] = typ.start;
+    row[6] = typ.end;
+    row[7] = name.start;
+    row[8] = name.end;
+    row[9] = value.kind;
+    row[10] = value.at;
+    row[11] = value.flag;
+    row[12] = value.start;
+    row[13] = value.end;
+    row[14] = last.start;
+    row[15] = last.end;
 }
 
-fn mode(start: bool, at: usize, name: Name, digits: Name, milli: bool) -> Fields
-    ensures { λ r. ⌜ itemOf r ≡ ModeBegin start at name digits milli ⌝ }
+fn constant(row: &mut [usize], name: Name, literal: Literal)
+    requires { ⌜ length (now row) ≡ 16 ⌝ }
+    ensures { λ _. ⌜ (getD (now (row .exit)) 0 0 ≡ 2) × (nameAt (now (row .exit)) 5 ≡ name) × (literalAt (now (row .exit)) 7 ≡ literal) ⌝ }
+{
+    let value = value_of(literal);
+    row[0] = 2;
+    row[5] = name.start;
+    row[6] = name.end;
+    row[7] = value.kind;
+    row[8] = value.at;
+    row[9] = value.flag;
+    row[10] = value.start;
+    row[11] = value.end;
+}
+
+fn mode(row: &mut [usize], start: bool, at: usize, name: Name, digits: Name, milli: bool)
+    requires { ⌜ length (now row) ≡ 16 ⌝ }
+    ensures { λ _. ⌜ (getD (now (row .exit)) 0 0 ≡ 9) × (eqb (getD (now (row .exit)) 7 0) 1 ≡ start) × (getD (now (row .exit)) 8 0 ≡ at) × (nameAt (now (row .exit)) 5 ≡ name) × (nameAt (now (row .exit)) 9 ≡ digits) × (eqb (getD (now (row .exit)) 11 0) 1 ≡ milli) ⌝ }
 {
     let first = bit(start);
     let unit = bit(milli);
-    short(
-        9,
-        name.start,
-        name.end,
-        first,
-        at,
-        digits.start,
-        digits.end,
-        unit,
-    )
+    row[0] = 9;
+    row[5] = name.start;
+    row[6] = name.end;
+    row[7] = first;
+    row[8] = at;
+    row[9] = digits.start;
+    row[10] = digits.end;
+    row[11] = unit;
+}
+
+// The section and the place of an activity, and its digits.
+fn activity(row: &mut [usize], section: u8, at: usize, digits: Name)
+    requires { ⌜ length (now row) ≡ 16 ⌝ }
+    ensures { λ _. ⌜ (getD (now (row .exit)) 0 0 ≡ 10) × (getD (now (row .exit)) 7 0 % 256 ≡ section) × (getD (now (row .exit)) 8 0 ≡ at) × (nameAt (now (row .exit)) 5 ≡ digits) ⌝ }
+{
+    let number = states::wide(section);
+    row[0] = 10;
+    row[5] = digits.start;
+    row[6] = digits.end;
+    row[7] = number;
+    row[8] = at;
 }
 
 // An argument of a task or of a guard.
-fn argument(kind: usize, port: Port) -> Fields
-    ensures { λ r. ⌜ (r ≡ shortOf kind (port .first .start) (port .first .end) (port .second .start) (port .second .end) (r .five) 0 0) × (eqb (r .five) 1 ≡ port .dotted) ⌝ }
+fn argument(row: &mut [usize], kind: usize, port: Port)
+    requires { ⌜ length (now row) ≡ 16 ⌝ }
+    ensures { λ _. ⌜ (getD (now (row .exit)) 0 0 ≡ kind) × (portAt (now (row .exit)) 5 ≡ port) ⌝ }
 {
     let dotted = bit(port.dotted);
     let first = port.first;
     let second = port.second;
-    short(
-        kind,
-        first.start,
-        first.end,
-        second.start,
-        second.end,
-        dotted,
-        0,
-        0,
-    )
+    row[0] = kind;
+    row[5] = first.start;
+    row[6] = first.end;
+    row[7] = second.start;
+    row[8] = second.end;
+    row[9] = dotted;
 }
 
-fn update(actuator: Name, source: Port) -> Fields
-    ensures { λ r. ⌜ itemOf r ≡ Update actuator source ⌝ }
+fn update(row: &mut [usize], actuator: Name, source: Port)
+    requires { ⌜ length (now row) ≡ 16 ⌝ }
+    ensures { λ _. ⌜ (getD (now (row .exit)) 0 0 ≡ 15) × (nameAt (now (row .exit)) 5 ≡ actuator) × (portAt (now (row .exit)) 7 ≡ source) ⌝ }
 {
     let dotted = bit(source.dotted);
     let first = source.first;
     let second = source.second;
-    short(
-        15,
-        actuator.start,
-        actuator.end,
-        first.start,
-        first.end,
-        second.start,
-        second.end,
-        dotted,
-    )
+    row[0] = 15;
+    row[5] = actuator.start;
+    row[6] = actuator.end;
+    row[7] = first.start;
+    row[8] = first.end;
+    row[9] = second.start;
+    row[10] = second.end;
+    row[11] = dotted;
 }
 
-// The twelve numbers of an item.
-fn fields_of(item: Item) -> Fields
-    ensures { λ r. ⌜ itemOf r ≡ item ⌝ }
+// The number and the place of a refusal.
+fn refused(row: &mut [usize], number: u8, at: usize)
+    requires { ⌜ length (now row) ≡ 16 ⌝ }
+    ensures { λ _. ⌜ (getD (now (row .exit)) 0 0 ≡ 20) × (getD (now (row .exit)) 7 0 % 256 ≡ number) × (getD (now (row .exit)) 8 0 ≡ at) ⌝ }
+{
+    let refusal = states::wide(number);
+    row[0] = 20;
+    row[7] = refusal;
+    row[8] = at;
+}
+
+// The kind and the numbers of an item.
+fn lay(row: &mut [usize], item: Item)
+    requires { ⌜ length (now row) ≡ 16 ⌝ }
+    ensures { λ _. ⌜ itemOf (fieldsIn (now (row .exit))) ≡ item ⌝ }
 {
     match item {
-        Item::Module(name) => named(0, name),
-        Item::Section => short(1, 0, 0, 0, 0, 0, 0, 0),
-        Item::Constant { name, value } => constant(name, value),
-        Item::Sensor { typ, name, getter } => typed(3, typ, name, getter),
+        Item::Module(name) => named(row, 0, name),
+        Item::Section => plain(row, 1),
+        Item::Constant { name, value } => constant(row, name, value),
+        Item::Sensor { typ, name, getter } => typed(row, 3, typ, name, getter),
         Item::Actuator {
             typ,
             name,
             value,
             setter,
-        } => {
-            let v = value_of(value);
-            long(4, typ, name, v, setter)
-        }
-        Item::TaskBegin(name) => named(5, name),
-        Item::Input { typ, name } => typed(6, typ, name, name),
-        Item::Output { typ, name, value } => {
-            let v = value_of(value);
-            long(7, typ, name, v, name)
-        }
-        Item::TaskEnd(name) => named(8, name),
+        } => long(row, 4, typ, name, value, setter),
+        Item::TaskBegin(name) => named(row, 5, name),
+        Item::Input { typ, name } => typed(row, 6, typ, name, name),
+        Item::Output { typ, name, value } => long(row, 7, typ, name, value, name),
+        Item::TaskEnd(name) => named(row, 8, name),
         Item::ModeBegin {
             start,
             at,
             name,
             digits,
             milli,
-        } => mode(start, at, name, digits, milli),
-        Item::Activity { kind, at, digits } => {
-            let section = states::wide(kind);
-            short(10, digits.start, digits.end, section, at, 0, 0, 0)
-        }
-        Item::Guard { name, count } => short(11, name.start, name.end, count, 0, 0, 0, 0),
-        Item::GuardArg(port) => argument(12, port),
-        Item::Invoke { task, count } => short(13, task.start, task.end, count, 0, 0, 0, 0),
-        Item::Arg(port) => argument(14, port),
-        Item::Update { actuator, source } => update(actuator, source),
-        Item::Switch(name) => named(16, name),
-        Item::ModeEnd => short(17, 0, 0, 0, 0, 0, 0, 0),
-        Item::ModuleEnd => short(18, 0, 0, 0, 0, 0, 0, 0),
-        Item::End => short(19, 0, 0, 0, 0, 0, 0, 0),
-        Item::No { number, at } => {
-            let refusal = states::wide(number);
-            short(20, 0, 0, refusal, at, 0, 0, 0)
-        }
+        } => mode(row, start, at, name, digits, milli),
+        Item::Activity { kind, at, digits } => activity(row, kind, at, digits),
+        Item::Guard { name, count } => counted(row, 11, name, count),
+        Item::GuardArg(port) => argument(row, 12, port),
+        Item::Invoke { task, count } => counted(row, 13, task, count),
+        Item::Arg(port) => argument(row, 14, port),
+        Item::Update { actuator, source } => update(row, actuator, source),
+        Item::Switch(name) => named(row, 16, name),
+        Item::ModeEnd => plain(row, 17),
+        Item::ModuleEnd => plain(row, 18),
+        Item::End => plain(row, 19),
+        Item::No { number, at } => refused(row, number, at),
     }
 }
 
-// Four numbers from a place on.
-fn put(memo: &mut [usize], at: usize, one: usize, two: usize, three: usize, four: usize)
-    requires { ⌜ at + 4 ≤ length (now memo) ⌝ }
-    ensures { λ _. ⌜ now (memo .exit) ≡ sets (now (memo .entry)) at (one ∷ two ∷ three ∷ four ∷ []) ⌝ }
+// The row of the item at a place, in a state that stands beside its number; and the state behind it.
+pub(crate) fn read(s: &[u8], state: State, before: usize, at: usize, row: &mut [usize; 16]) -> State
+    ensures { λ r. ⌜ Laid (now (s .entry)) state before at (now (row .exit)) r ⌝ }
 {
-    memo[at] = one;
-    memo[at + 1] = two;
-    memo[at + 2] = three;
-    memo[at + 3] = four;
-}
-
-// A row of sixteen numbers from a place on.
-fn write(
-    memo: &mut [usize],
-    first: usize,
-    before: usize,
-    place: usize,
-    behind: usize,
-    next: usize,
-    fields: Fields,
-)
-    requires { ⌜ first + 16 ≤ length (now memo) ⌝ }
-    ensures { λ _. ⌜ now (memo .exit) ≡ sets (now (memo .entry)) first (numbers before place behind next fields) ⌝ }
-{
-    put(memo, first, fields.kind, before, place, behind);
-    let second = first + 4;
-    put(memo, second, next, fields.one, fields.two, fields.three);
-    let third = second + 4;
-    put(
-        memo,
-        third,
-        fields.four,
-        fields.five,
-        fields.six,
-        fields.seven,
-    );
-    let fourth = third + 4;
-    put(
-        memo,
-        fourth,
-        fields.eight,
-        fields.nine,
-        fields.ten,
-        fields.eleven,
-    );
-}
-
-// One row more: what was read at a place, in a state.
-pub fn keep(memo: &mut [usize], state: State, at: usize, read: ReadItem)
-    ensures { λ _. ⌜ Keeps state at read (now (memo .entry)) (now (memo .exit)) ⌝ }
-{
-    if memo.len() < 16 {
-        return;
-    }
-    let many = memo[0];
-    if (memo.len() - 16) / 16 <= many {
-        return;
-    }
+    let read = items::item(s, state, at);
     let found = read.item;
-    let fields = fields_of(found);
-    let before = states::number_of(state);
+    lay(row, found);
     let ahead = read.state;
     let behind = states::number_of(ahead);
-    write(memo, many * 16 + 16, before, at, behind, read.next, fields);
-    memo[0] = many + 1;
-}
-
-// A row of what is read at a place, in a state by its number.
-pub(crate) fn anew(s: &[u8], state: usize, at: usize, row: &mut [usize; 16])
-    ensures { λ _. ⌜ readOf (now (row .exit)) ≡ itemAt (now (s .entry)) (stateOf state) at ⌝ }
-{
-    let before = states::state_of(state);
-    let read = items::item(s, before, at);
-    let found = read.item;
-    let fields = fields_of(found);
-    let ahead = read.state;
-    let behind = states::number_of(ahead);
-    write(row, 0, state, at, behind, read.next, fields);
+    row[1] = before;
+    row[2] = at;
+    row[3] = behind;
+    row[4] = read.next;
+    ahead
 }

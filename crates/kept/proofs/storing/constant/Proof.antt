@@ -1,6 +1,7 @@
-use mathlib.Core.Path.{ap, _∙_}
-use Rattle.kept.specs.Rows.{itemOf}
-use Rattle.kept.specs.KeptLaws.{constant-back}
+use mathlib.Core.Path.{refl}
+use lib.ListN.{length-set}
+use Rattle.kept.specs.KeptLaws.{whole}
+use native.Mathlib.Omega.{arith}
 use borrow.Author.Needs.{needs}
 use Rattle.kept.proofs.storing.constant.Statement.{statement}
 use Rattle.kept.proofs.storing.constant.Tie as tie
@@ -8,11 +9,48 @@ use Rattle.kept.proofs.storing.constant.Tie as tie
 value-of-requires : tie.Need-value-of-requires
 value-of-requires c κs = search needs
 
-short-requires : tie.Need-short-requires
-short-requires c κs = search needs
+slice-write-row : tie.Need-slice-write-row
+slice-write-row c = search needs
+
+slice-write-row-2 : tie.Need-slice-write-row-2
+slice-write-row-2 c = simp length-set (omega arith)
+
+slice-write-row-3 : tie.Need-slice-write-row-3
+slice-write-row-3 c = simp length-set (omega arith)
+
+slice-write-row-4 : tie.Need-slice-write-row-4
+slice-write-row-4 c = simp length-set (omega arith)
+
+slice-write-row-5 : tie.Need-slice-write-row-5
+slice-write-row-5 c = simp length-set (omega arith)
+
+slice-write-row-6 : tie.Need-slice-write-row-6
+slice-write-row-6 c = simp length-set (omega arith)
+
+slice-write-row-7 : tie.Need-slice-write-row-7
+slice-write-row-7 c = simp length-set (omega arith)
+
+slice-write-row-8 : tie.Need-slice-write-row-8
+slice-write-row-8 c = simp length-set (omega arith)
+
+same-length : tie.Need-same-length
+same-length c = simp length-set
 
 returns : tie.Need-returns
-returns c = ap itemOf (c .short .ensures) ∙ constant-back _ _ (c .before .value-of .ensures) _
+returns c = rw (whole (c .before .before .args .row .now) (c .before .before .pre)) (refl, refl, c .value-of .ensures)
 
 pub constant-spec : {M : Type 1} → statement M
-constant-spec = tie.close (tie.spec value-of-requires short-requires returns)
+constant-spec =
+    tie.close
+    (tie.spec
+    value-of-requires
+    slice-write-row
+    slice-write-row-2
+    slice-write-row-3
+    slice-write-row-4
+    slice-write-row-5
+    slice-write-row-6
+    slice-write-row-7
+    slice-write-row-8
+    same-length
+    returns)
