@@ -4,7 +4,7 @@ ghost use lib.ListN.{getD};
 ghost use Rattle.kept.specs.Rows.{fieldsIn, itemOf};
 ghost use Rattle.build.specs.Walks.{declaring as declaringOf, overBy};
 
-// Whether a walk ends with the item of a row at a place.
+// Whether a walk ends with the item of a row at a place: it does not go on ahead, or the item is the end of the text or a refusal.
 pub fn over(row: &[usize; 16], at: usize) -> bool
     ensures { λ r. ⌜ r ≡ overBy (itemOf (fieldsIn (now (row .entry)))) at (getD (now (row .entry)) 4 0) ⌝ }
 {
@@ -14,6 +14,7 @@ pub fn over(row: &[usize; 16], at: usize) -> bool
     18 < row[0]
 }
 
+// A mode's begin declares one name, and so does each kind from a constant to an output.
 pub fn declaring(row: &[usize; 16]) -> usize
     ensures { λ r. ⌜ r ≡ declaringOf (itemOf (fieldsIn (now (row .entry)))) ⌝ }
 {

@@ -8,7 +8,8 @@ ghost use Rattle.names.specs.Index.{Indexed};
 ghost use Rattle.sheets.specs.Sheets.{sheet, planned as plannedBy};
 use sheets::Plan;
 
-// The arrays and what is kept, behind the item of a row that stands behind the first n of all rows of names.
+// The arrays and what is kept, behind the item of a row that stands behind the first n of all rows of names: a task's end, a mode's begin, an activity,
+// a guard, its operand, an invocation, its argument, an update, a switch, or a mode's end; another changes nothing.
 pub fn planned<'a>(
     s: &'a [u8],
     cells: &'a [usize],

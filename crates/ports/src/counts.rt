@@ -5,6 +5,7 @@ ghost use Rattle.ports.specs.Parts.{countsBy};
 use super::Ports;
 use super::rows;
 
+// A sensor, an actuator, a task's begin, its input, its output, or its end counts.
 pub(super) fn counted(row: &[usize; 16], ports: Ports) -> Ports
     ensures { λ r. ⌜ r ≡ countsBy (itemOf (fieldsIn (now (row .entry)))) ports ⌝ }
 {

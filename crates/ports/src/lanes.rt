@@ -43,6 +43,7 @@ fn typed(s: &[u8], role: u32, typ: Name, start: u32) -> Made
     }
 }
 
+// A sensor, an actuator, an input and an output make a port.
 pub(super) fn port_of(s: &[u8], cells: &[usize], n: usize, row: &[usize; 16]) -> Made
     ensures { λ r. ⌜ (Indexed (now (s .entry)) (now (cells .entry)) → Makes (now (s .entry)) (rowsIn (now (cells .entry)) n) (itemOf (fieldsIn (now (row .entry)))) (r .role) (r .typ) (r .start)) ⌝ }
 {

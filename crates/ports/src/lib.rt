@@ -1,6 +1,6 @@
 // What the declarations of a text put into the arrays of a table: names, ports and the rows of tasks.
-// Promises: for every text, table of names with a right index, item and array, each cell is what the definition of that item puts there (specs/), and nothing else changes.
-// Builds on what names and values mean, and on the layout of a table.
+// Promises: for every text, table of names with a right index, row of an item and array, each cell is what the definition of that item puts there (specs/), and nothing else changes.
+// Builds on the rows of kept items, on what names and values mean, and on the layout of a table.
 ghost use mathlib.Core.Bool.{true};
 ghost use mathlib.Core.Path.{_≡_};
 ghost use Rattle.kept.specs.Rows.{fieldsIn, itemOf};
@@ -31,7 +31,7 @@ pub struct Ports {
     pub outputs: u32,
 }
 
-// Whether the item of a row puts nothing into the arrays.
+// Whether the item of a row puts nothing into the arrays: it is none of the module's name, a sensor, an actuator, a task's begin, its input, its output, or its end.
 fn still(row: &[usize; 16]) -> bool
     ensures { λ r. ⌜ (r ≡ true → Still (itemOf (fieldsIn (now (row .entry))))) ⌝ }
 {

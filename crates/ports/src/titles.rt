@@ -24,7 +24,7 @@ fn two(s: &[u8], k: u32, first: Name, second: Name, names: &mut [u8])
     rows::name_row(s, second, row + 33, names);
 }
 
-// The names that an item declares.
+// The names that the item of a row declares: the module's, a sensor's, an actuator's, a task's, an output's, or that of a task's function.
 pub(super) fn titled(
     s: &[u8],
     row: &[usize; 16],
