@@ -8,7 +8,8 @@ use native.Mathlib.Nat.{add-zero, zero-add}
 use native.Mathlib.Numerals.{add-one}
 use borrow.Author.Tests.{ltb-true, ltb-false, eqb-true, eqb-false, eq-eqb, ne-eqb}
 use lib.Dec.{eqb, ltb}
-use lib.ListN.{length, getD, List·getD-eq-default}
+use lib.ListN.{length, take, getD, List·getD-eq-default}
+use lib.Seq.{take-all}
 use Rattle.refusals.specs.declared.Row.{Row}
 use Rattle.refusals.specs.Names.{unknown, isRow, find, noType, count, types}
 use Rattle.names.specs.Tables.{rowAt, rowsFrom, rowsIn}
@@ -127,3 +128,7 @@ pub length-rows : (m : ℕ) (cells : List ℕ) (k : ℕ) → length (rowsFrom m 
 unfolding rowsFrom
 length-rows zero cells k = refl
 length-rows (suc m) cells k = ap suc (length-rows m cells (k + 1))
+
+-- rows counted over the whole of an array are those of the array
+pub counted-whole : (of : Row → Bool) (cells : List ℕ) (n : ℕ) {r : ℕ} → r ≡ count of (rowsIn (take (length cells - 0) cells) n) → r ≡ count of (rowsIn cells n)
+counted-whole of cells n e = e ∙ ap (λ (l : List ℕ). count of (rowsIn l n)) (take-all (length cells - 0) cells (omega arith))

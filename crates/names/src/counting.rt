@@ -3,10 +3,10 @@ ghost use mathlib.Core.Path.{_≡_};
 ghost use mathlib.Core.List.{List};
 ghost use mathlib.Core.Bool.{false};
 ghost use Prim.Native.Nat.{ℕ, _-_, _<_, min};
-ghost use Rattle.refusals.specs.Names.{count, isSort, isPortOf};
+ghost use Rattle.refusals.specs.Names.{count, isSort, isPort, isPortOf};
 ghost use Rattle.names.specs.Tables.{rowAt, rowsIn, scopeOf, isOf};
 ghost use Rattle.names.specs.TablesLaws.{typeUp};
-ghost use Rattle.names.specs.Index.{indexed, Indexed};
+ghost use Rattle.names.specs.Index.{Indexed};
 use super::Scope;
 use super::Sought;
 
@@ -36,47 +36,67 @@ fn number_of(scope: Scope) -> usize
     }
 }
 
-// Those of a sort, among all rows of the index.
-fn of_sort(cells: &[usize], n: usize, sort: usize) -> usize
-    ensures { λ r. ⌜ ((s : List ℕ) → Indexed s (now (cells .entry)) → n ≡ indexed (now (cells .entry)) → r ≡ count (isSort sort) (rowsIn (now (cells .entry)) n)) ⌝ }
+// Those of a sort. Where they are counted row by row, the array is lent anew: what is lent to this function is then only read.
+pub fn of_sort(cells: &[usize], n: usize, sort: usize) -> usize
+    ensures { λ r. ⌜ ((s : List ℕ) → Indexed s (now (cells .entry)) → r ≡ count (isSort sort) (rowsIn (now (cells .entry)) n)) ⌝ }
 {
-    if sort < 7 {
-        return super::cell(cells, sort + 8);
+    if n == super::cell(cells, 0) {
+        if sort < 7 {
+            return super::cell(cells, sort + 8);
+        }
     }
-    counted(cells, n, Sought::Sort(sort))
+    counted(&cells[0..cells.len()], n, Sought::Sort(sort))
 }
 
-// The inputs or the outputs of a scope, among all rows of the index.
-fn of_scope(cells: &[usize], n: usize, scope: Scope, sort: usize) -> usize
-    ensures { λ r. ⌜ ((s : List ℕ) → Indexed s (now (cells .entry)) → n ≡ indexed (now (cells .entry)) → r ≡ count (isPortOf (scopeOf scope) sort) (rowsIn (now (cells .entry)) n)) ⌝ }
+// The ports.
+pub fn of_ports(cells: &[usize], n: usize) -> usize
+    ensures { λ r. ⌜ ((s : List ℕ) → Indexed s (now (cells .entry)) → r ≡ count isPort (rowsIn (now (cells .entry)) n)) ⌝ }
+{
+    if n == super::cell(cells, 0) {
+        return super::cell(cells, 1);
+    }
+    counted(&cells[0..cells.len()], n, Sought::Port)
+}
+
+// Those of a sort in a scope, row by row.
+fn in_scope(cells: &[usize], n: usize, scope: Scope, sort: usize) -> usize
+    ensures { λ r. ⌜ r ≡ count (isPortOf (scopeOf scope) sort) (rowsIn (now (cells .entry)) n) ⌝ }
+{
+    match scope {
+        Scope::Numbered(number) => counted(
+            &cells[0..cells.len()],
+            n,
+            Sought::PortOf {
+                scope: Scope::Numbered(number),
+                sort: sort,
+            },
+        ),
+        Scope::OfTask(task) => counted(
+            &cells[0..cells.len()],
+            n,
+            Sought::PortOf {
+                scope: Scope::OfTask(task),
+                sort: sort,
+            },
+        ),
+    }
+}
+
+// The inputs or the outputs of a scope.
+pub fn of_scope(cells: &[usize], n: usize, scope: Scope, sort: usize) -> usize
+    ensures { λ r. ⌜ ((s : List ℕ) → Indexed s (now (cells .entry)) → r ≡ count (isPortOf (scopeOf scope) sort) (rowsIn (now (cells .entry)) n)) ⌝ }
 {
     let number = number_of(scope);
-    if number < 33 {
-        if 4 < sort {
-            if sort < 7 {
-                return super::cell(cells, number * 4 + (sort - 4) + 16);
+    if n == super::cell(cells, 0) {
+        if number < 33 {
+            if 4 < sort {
+                if sort < 7 {
+                    return super::cell(cells, number * 4 + (sort - 4) + 16);
+                }
             }
         }
     }
-    counted(
-        cells,
-        n,
-        Sought::PortOf {
-            scope: scope,
-            sort: sort,
-        },
-    )
-}
-
-// How many there are among all rows of the index.
-pub fn kept(cells: &[usize], n: usize, sought: Sought) -> usize
-    ensures { λ r. ⌜ ((s : List ℕ) → Indexed s (now (cells .entry)) → n ≡ indexed (now (cells .entry)) → r ≡ count (isOf sought) (rowsIn (now (cells .entry)) n)) ⌝ }
-{
-    match sought {
-        Sought::Sort(sort) => of_sort(cells, n, sort),
-        Sought::Port => super::cell(cells, 1),
-        Sought::PortOf { scope, sort } => of_scope(cells, n, scope, sort),
-    }
+    in_scope(cells, n, scope, sort)
 }
 
 fn less(number: usize) -> usize

@@ -317,10 +317,11 @@ fn is_of(sought: Sought, row: Row) -> bool
 pub fn count(cells: &[usize], n: usize, sought: Sought) -> usize
     ensures { λ r. ⌜ ((s : List ℕ) → Indexed s (now (cells .entry)) → r ≡ countOf (isOf sought) (rowsIn (now (cells .entry)) n)) ⌝ }
 {
-    if n == cell(cells, 0) {
-        return counting::kept(cells, n, sought);
+    match sought {
+        Sought::Sort(sort) => counting::of_sort(cells, n, sort),
+        Sought::Port => counting::of_ports(cells, n),
+        Sought::PortOf { scope, sort } => counting::of_scope(cells, n, scope, sort),
     }
-    counting::counted(cells, n, sought)
 }
 
 // The type of the one at place i of those among the first n rows.

@@ -1,22 +1,39 @@
 use mathlib.Core.Path.{_∙_}
+use Rattle.names.specs.TablesLaws.{counted-whole}
 use borrow.Author.Needs.{needs}
 use Rattle.names.proofs.counting.of_sort.Statement.{statement}
 use Rattle.names.proofs.counting.of_sort.Tie as tie
 
-add-cell : tie.Need-add-cell
-add-cell c = search needs
-
 cell-requires : tie.Need-cell-requires
 cell-requires c κs = search needs
 
+add-cell : tie.Need-add-cell
+add-cell c = search needs
+
+cell-requires-2 : tie.Need-cell-requires-2
+cell-requires-2 c κs = search needs
+
 returns : tie.Need-returns
-returns c text ix e = (c .cell .ensures) ∙ ix .counts .sorts (c .before .before .before .args .sort) (c .before .if1 .taken) ∙ rw e
+returns c text ix =
+    let e = (c .before .before .if1 .taken) ∙ (c .before .before .before .cell .ensures) in
+    (c .cell2 .ensures) ∙ ix .counts .sorts (c .before .before .before .before .before .args .sort) (c .before .if2 .taken) ∙ rw e
+
+sub-counted : tie.Need-sub-counted
+sub-counted c = search needs
+
+part-counted-start : tie.Need-part-counted-start
+part-counted-start c = search needs
+
+part-counted-end : tie.Need-part-counted-end
+part-counted-end c = search needs
 
 counted-requires : tie.Need-counted-requires
 counted-requires c κs = search needs
 
 returns-2 : tie.Need-returns-2
-returns-2 c = search needs
+returns-2 c text ix =
+    let args = c .before .before .before .before .before .args in
+    counted-whole _ (args .cells .now) (args .n) (c .counted .ensures)
 
 pub of-sort-spec : {M : Type 1} → statement M
-of-sort-spec = tie.close (tie.spec add-cell cell-requires returns counted-requires returns-2)
+of-sort-spec = tie.close (tie.spec cell-requires add-cell cell-requires-2 returns sub-counted part-counted-start part-counted-end counted-requires returns-2)
