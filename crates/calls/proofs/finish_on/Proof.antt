@@ -6,7 +6,6 @@ use borrow.Author.Tests.{not-true, not-false}
 use mathlib.Core.List.{[]}
 use mathlib.Core.Path.{sym, _∙_, refl}
 use native.Mathlib.Omega.{arith}
-use native.Mathlib.Omega.{arith}
 use borrow.Author.Needs.{needs}
 use Rattle.calls.proofs.finish_on.Statement.{statement}
 use Rattle.calls.proofs.finish_on.Tie as tie

@@ -2,7 +2,6 @@ use Rattle.machine.specs.Words.{lowestIn}
 use Rattle.bits.specs.Found.{task-is, nobody-is}
 use Rattle.machine.specs.Calls.{nextTask}
 use mathlib.Core.Path.{sym, _∙_, refl}
-use native.Mathlib.Omega.{arith}
 use borrow.Author.Needs.{needs}
 use Rattle.calls.proofs.next_on.Statement.{statement}
 use Rattle.calls.proofs.next_on.Tie as tie

@@ -2,7 +2,6 @@ use Rattle.calls.specs.States.{stateBy, closed, closes-reaction}
 use Rattle.steps.specs.Rows.{reactive}
 use denote.Ref.{now}
 use mathlib.Core.Path.{ap, _∙_}
-use native.Mathlib.Omega.{arith}
 use borrow.Author.Needs.{needs}
 use Rattle.calls.proofs.react_on.Statement.{statement}
 use Rattle.calls.proofs.react_on.Tie as tie

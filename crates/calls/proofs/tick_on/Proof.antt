@@ -7,7 +7,6 @@ use lib.ListN.{getD}
 use denote.Ref.{now}
 use mathlib.Core.List.{[]}
 use mathlib.Core.Path.{sym, _∙_, refl}
-use native.Mathlib.Omega.{arith}
 use borrow.Author.Needs.{needs}
 use Rattle.calls.proofs.tick_on.Statement.{statement}
 use Rattle.calls.proofs.tick_on.Tie as tie
