@@ -1,5 +1,5 @@
 -- The items that an array of numbers keeps of a text.
-use Prim.Native.Nat.{ℕ, _+_, _*_, _<_}
+use Prim.Native.Nat.{ℕ, _+_, _*_, _%_, _<_}
 use mathlib.Core.Path.{_≡_}
 use mathlib.Core.List.{List}
 use lib.ListN.{getD, take, drop}
@@ -19,13 +19,14 @@ Right s row = readOf row ≡ itemAt s (stateOf (getD row 1 0)) (getD row 2 0)
 pub record Kept (s memo : List ℕ) : Type 0 where
   pub each : (k : ℕ) → k < getD memo 0 0 → Right s (rowOf memo k)
 
--- a row is the item of the text at this place, in this state, whose number it has; and what state is behind it
-pub record Laid (s : List ℕ) (state : State) (before at : ℕ) (row : List ℕ) (behind : State) : Type 0 where
+-- a row is the item of the text at this place, in this state, whose number it has; and what a pass goes on by stands in it
+pub record Laid (s : List ℕ) (state : State) (before at : ℕ) (row : List ℕ) (sort : ℕ) (behind : State) (beyond ahead refused spot : ℕ) : Type 0 where
   pub told : readOf row ≡ itemAt s state at
   pub number : getD row 1 0 ≡ before
   pub place : getD row 2 0 ≡ at
-  pub next : stateOf (getD row 3 0) ≡ behind
-
--- a row is kept too, where there is room
-pub record Keeps (row memo after : List ℕ) : Type 0 where
-  pub on : (s : List ℕ) → Right s row → Kept s memo → Kept s after
+  pub kind : sort ≡ getD row 0 0
+  pub reached : behind ≡ stateOf (getD row 3 0)
+  pub after : beyond ≡ getD row 3 0
+  pub next : ahead ≡ getD row 4 0
+  pub refusal : refused ≡ getD row 7 0 % 256
+  pub site : spot ≡ getD row 8 0

@@ -7,7 +7,7 @@ use native.Mathlib.Omega.{arith}
 use borrow.Author.Tests.{ltb-true, ltb-false}
 use borrow.Rule.Slice.PartMut.{putMid, post-is}
 use lib.Dec.{ltb}
-use lib.ListN.{length, getD, set, take, drop, length-append, drop-of-length-le, List·getD-eq-default}
+use lib.ListN.{length, getD, set, take, drop, length-append, length-set, drop-of-length-le, List·getD-eq-default}
 use lib.Seq.{sets, sets-eq, length-sets, length-take-le, take-at, drop-at, drop-append-le, drop-set-lt, drop-set-add, take-set-le, getD-set-same, drop-cons}
 use Rattle.text.specs.declared.State.{State}
 use Rattle.text.specs.declared.State.the-variants as Q
@@ -16,7 +16,7 @@ use Rattle.text.specs.declared.Item.the-variants as I
 use Rattle.text.specs.declared.ReadItem.{ReadItem}
 use Rattle.text.specs.Items.{itemAt}
 use Rattle.kept.specs.Rows.{Fields, fieldsIn, itemOf, states, stateOf, nameOf, literals, literalOf, declarations, declarationOf, acts, actOf, readOf}
-use Rattle.kept.specs.Kept.{rowOf, Right, Kept, Laid, Keeps}
+use Rattle.kept.specs.Kept.{rowOf, Right, Kept, Laid}
 
 -- row k as it is lent, from its start up to its end
 abbrev pub lentOf : List ℕ → ℕ → List ℕ
@@ -87,24 +87,36 @@ module _ (memo new : List ℕ) (many : ℕ) (long : length new ≡ 16) (h : many
       rw (drop-set-lt (k * 16 + 16) (sets memo (many * 16 + 16) new) 0 (many + 1) (omega arith))
       (run-before new memo (many * 16 + 16) (k * 16 + 16) 16 (omega arith))
 
--- a row that is right is kept in a row more
-pub row-keeps : (memo row : List ℕ) (many : ℕ) → length row ≡ 16 → many ≡ getD memo 0 0 → many * 16 + 32 ≤ length memo → Keeps row memo (set (sets memo (many * 16 + 16) row) 0 (many + 1))
-row-keeps memo row many long m h = record { on = λ s right kept. record { each = λ k l. by s right kept k (ltb k many) refl (rw (more-count memo row many long h) at l) } }
+-- a row that is right is kept behind rows that are kept
+row-keeps : (s memo row : List ℕ) (many : ℕ) (long : length row ≡ 16) → many ≤ getD memo 0 0 → (h : many * 16 + 32 ≤ length memo) → Right s row → Kept s memo → Kept s (more memo row many long h)
+row-keeps s memo row many long m h right kept = record { each = λ k l. by k (ltb k many) refl (rw (more-count memo row many long h) at l) }
   where
-    by : (s : List ℕ) → Right s row → Kept s memo → (k : ℕ) (c : Bool) → ltb k many ≡ c → k < many + 1 → Right s (rowOf (more memo row many long h) k)
-    by s right kept k true c l = rw (more-first memo row many long h k (ltb-true k many c)) (kept .each k (rw m at (ltb-true k many c)))
-    by s right kept k false c l =
+    by : (k : ℕ) (c : Bool) → ltb k many ≡ c → k < many + 1 → Right s (rowOf (more memo row many long h) k)
+    by k true c l = rw (more-first memo row many long h k (ltb-true k many c)) (kept .each k (omega (arith, m, ltb-true k many c)))
+    by k false c l =
         let same : k ≡ many = omega (arith, ltb-false k many c) in
         rw (same, more-last memo row many long h) right
 
--- the same with the row put into the part that was lent for it
-pub lent-keeps : (memo row : List ℕ) (many : ℕ) → length row ≡ 16 → many ≡ getD memo 0 0 → many * 16 + 32 ≤ length memo
-    → Keeps row memo (set (putMid (many * 16 + 16) (many * 16 + 16 + 16 - (many * 16 + 16)) memo row) 0 (many + 1))
-lent-keeps memo row many long m h =
-    let first = many * 16 + 16 in
-    let whole-row : first + length row ≡ first + 16 = omega (arith, long) in
-    let put : sets memo first row ≡ take first memo ++ (row ++ drop (first + 16) memo) = sets-eq row memo first (omega (arith, long)) ∙ append-assoc (take first memo) row (drop (first + length row) memo) ∙ ap (λ (n : ℕ). take first memo ++ (row ++ drop n memo)) whole-row in
-    rw (post-is first (first + 16) memo (omega arith), ← put) (row-keeps memo row many long m h)
+-- the same with the row laid in the part that was lent for it
+module _ (memo row : List ℕ) (many : ℕ) (long : length row ≡ 16) (h : many * 16 + 32 ≤ length memo) where
+  lent-is : putMid (many * 16 + 16) (many * 16 + 16 + 16 - (many * 16 + 16)) memo row ≡ sets memo (many * 16 + 16) row
+  lent-is =
+      let first = many * 16 + 16 in
+      let whole-row : first + length row ≡ first + 16 = omega (arith, long) in
+      let put : sets memo first row ≡ take first memo ++ (row ++ drop (first + 16) memo) = sets-eq row memo first (omega (arith, long)) ∙ append-assoc (take first memo) row (drop (first + length row) memo) ∙ ap (λ (n : ℕ). take first memo ++ (row ++ drop n memo)) whole-row in
+      rw (post-is first (first + 16) memo (omega arith)) (sym put)
+
+  abbrev pub lent : List ℕ
+  lent = set (putMid (many * 16 + 16) (many * 16 + 16 + 16 - (many * 16 + 16)) memo row) 0 (many + 1)
+
+  pub lent-count : getD lent 0 0 ≡ many + 1
+  lent-count = rw lent-is (more-count memo row many long h)
+
+  pub lent-length : length lent ≡ length memo
+  lent-length = rw lent-is (simp length-set (length-sets memo (many * 16 + 16) row))
+
+  pub lent-keeps : {s : List ℕ} → many ≤ getD memo 0 0 → Right s row → Kept s memo → Kept s lent
+  lent-keeps {s} m right kept = rw lent-is (row-keeps s memo row many long m h right kept)
 
 -- what row k tells, where it was read at this place and in this state
 pub fetched : {s memo : List ℕ} (k : ℕ) {state : State} {at : ℕ} {r : ReadItem} → Kept s memo → k < getD memo 0 0 → r ≡ readOf (lentOf memo k) → stateOf (getD (lentOf memo k) 1 0) ≡ state → getD (lentOf memo k) 2 0 ≡ at
@@ -143,16 +155,22 @@ pub all-set : (from row : List ℕ) → length from ≡ 16 → length row ≡ 16
 all-set from row e h = ap (λ (l : List ℕ). sets row 0 l) (sym (numbers-from 0 16 from (sym e))) ∙ over from row (h ∙ sym e)
 
 -- the numbers of the states and the places beside those of an item
-pub laid-by : {s : List ℕ} {state : State} {at : ℕ} (before : ℕ) (row : List ℕ) (r : ReadItem) (n : ℕ) → length row ≡ 16 → r ≡ itemAt s state at → itemOf (fieldsIn row) ≡ r .item → stateOf n ≡ r .state
-    → Laid s state before at (sets row 1 (before ∷ at ∷ n ∷ r .next ∷ [])) (r .state)
-laid-by before row r n long p i q =
+pub laid-by : {s : List ℕ} {state : State} {at : ℕ} (before : ℕ) (row : List ℕ) (r : ReadItem) (n refused : ℕ) → length row ≡ 16 → r ≡ itemAt s state at → itemOf (fieldsIn row) ≡ r .item → stateOf n ≡ r .state
+    → refused ≡ getD (sets row 1 (before ∷ at ∷ n ∷ r .next ∷ [])) 7 0 % 256
+    → Laid s state before at (sets row 1 (before ∷ at ∷ n ∷ r .next ∷ [])) (getD (sets row 1 (before ∷ at ∷ n ∷ r .next ∷ [])) 0 0) (r .state) n (r .next) refused (getD (sets row 1 (before ∷ at ∷ n ∷ r .next ∷ [])) 8 0)
+laid-by before row r n refused long p i q e =
     record {
       told = rw (whole row long) (rw (i, q) p);
       number = rw (whole row long);
       place = rw (whole row long);
-      next = rw (whole row long) q;
+      kind = refl;
+      reached = rw (whole row long) (sym q);
+      after = rw (whole row long);
+      next = rw (whole row long);
+      refusal = e;
+      site = refl;
     }
 
 -- such a row is right
-pub laid-right : {s : List ℕ} {state : State} {before at : ℕ} {row : List ℕ} {behind : State} → Laid s state before at row behind → stateOf before ≡ state → Right s row
+pub laid-right : {s : List ℕ} {state : State} {before at : ℕ} {row : List ℕ} {sort : ℕ} {behind : State} {beyond ahead refused spot : ℕ} → Laid s state before at row sort behind beyond ahead refused spot → stateOf before ≡ state → Right s row
 laid-right l q = rw (l .number, l .place, q) (l .told)

@@ -1,11 +1,10 @@
-// A row by itself: its numbers copied and kept, and what stands at the places of its item.
+// A row by itself: its numbers copied, and what stands at the places of its item.
 ghost use Prim.Native.Nat.{_+_, _%_, _≤_};
 ghost use lib.ListN.{length, getD};
 ghost use lib.Seq.{sets};
 ghost use mathlib.Core.List.{[], _∷_};
 ghost use mathlib.Core.Path.{_≡_};
 ghost use Rattle.kept.specs.Rows.{nameAt, literalAt, portAt};
-ghost use Rattle.kept.specs.Kept.{Keeps};
 use super::fetching;
 use super::states;
 use text::Literal;
@@ -32,23 +31,6 @@ pub(crate) fn copied(from: &[usize], row: &mut [usize])
     put(row, 4, from[4], from[5], from[6], from[7]);
     put(row, 8, from[8], from[9], from[10], from[11]);
     put(row, 12, from[12], from[13], from[14], from[15]);
-}
-
-// One row more, where there is room.
-pub(crate) fn keep(memo: &mut [usize], row: &[usize; 16])
-    ensures { λ _. ⌜ Keeps (now (row .entry)) (now (memo .entry)) (now (memo .exit)) ⌝ }
-{
-    if memo.len() < 16 {
-        return;
-    }
-    let many = memo[0];
-    if (memo.len() - 16) / 16 <= many {
-        return;
-    }
-    let first = many * 16 + 16;
-    let end = first + 16;
-    copied(row, &mut memo[first..end]);
-    memo[0] = many + 1;
 }
 
 // The name that an item has first.

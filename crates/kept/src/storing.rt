@@ -21,6 +21,16 @@ pub(crate) struct Value {
     pub(crate) end: usize,
 }
 
+// What a pass goes on by: the kind of an item, the state behind it and its number, the next place, and the number and the place of a refusal.
+pub(crate) struct Turn {
+    pub(crate) kind: usize,
+    pub(crate) state: State,
+    pub(crate) number: usize,
+    pub(crate) next: usize,
+    pub(crate) refusal: u8,
+    pub(crate) place: usize,
+}
+
 fn bit(yes: bool) -> usize
     ensures { λ r. ⌜ eqb r 1 ≡ yes ⌝ }
 {
@@ -257,18 +267,28 @@ fn lay(row: &mut [usize], item: Item)
     }
 }
 
-// The row of the item at a place, in a state that stands beside its number; and the state behind it.
-pub(crate) fn read(s: &[u8], state: State, before: usize, at: usize, row: &mut [usize; 16]) -> State
-    ensures { λ r. ⌜ Laid (now (s .entry)) state before at (now (row .exit)) r ⌝ }
+// The row of the item at a place, in a state that stands beside its number; and what a pass goes on by.
+pub(crate) fn read(s: &[u8], state: State, before: usize, at: usize, row: &mut [usize]) -> Turn
+    requires { ⌜ length (now row) ≡ 16 ⌝ }
+    ensures { λ r. ⌜ Laid (now (s .entry)) state before at (now (row .exit)) (r .kind) (r .state) (r .number) (r .next) (r .refusal) (r .place) ⌝ }
 {
     let read = items::item(s, state, at);
     let found = read.item;
     lay(row, found);
     let ahead = read.state;
     let behind = states::number_of(ahead);
+    let next = read.next;
     row[1] = before;
     row[2] = at;
     row[3] = behind;
-    row[4] = read.next;
-    ahead
+    row[4] = next;
+    let refusal = states::narrow(row[7]);
+    Turn {
+        kind: row[0],
+        state: ahead,
+        number: behind,
+        next: next,
+        refusal: refusal,
+        place: row[8],
+    }
 }

@@ -1,6 +1,7 @@
 use mathlib.Core.Path.{_≡_}
-use lib.ListN.{length}
+use lib.ListN.{length, length-set}
 use Rattle.kept.specs.KeptLaws.{laid-by}
+use native.Mathlib.Omega.{arith}
 use borrow.Author.Needs.{needs}
 use Rattle.kept.proofs.storing.read.Statement.{statement}
 use Rattle.kept.proofs.storing.read.Tie as tie
@@ -14,23 +15,38 @@ lay-requires c κs = search needs
 number-of-requires : tie.Need-number-of-requires
 number-of-requires c κs = search needs
 
-element-write-row : tie.Need-element-write-row
-element-write-row c = search needs
+slice-write-row : tie.Need-slice-write-row
+slice-write-row c = search needs
 
-element-write-row-2 : tie.Need-element-write-row-2
-element-write-row-2 c = search needs
+slice-write-row-2 : tie.Need-slice-write-row-2
+slice-write-row-2 c = simp length-set (omega arith)
 
-element-write-row-3 : tie.Need-element-write-row-3
-element-write-row-3 c = search needs
+slice-write-row-3 : tie.Need-slice-write-row-3
+slice-write-row-3 c = simp length-set (omega arith)
 
-element-write-row-4 : tie.Need-element-write-row-4
-element-write-row-4 c = search needs
+slice-write-row-4 : tie.Need-slice-write-row-4
+slice-write-row-4 c = simp length-set (omega arith)
+
+slice-read-narrow : tie.Need-slice-read-narrow
+slice-read-narrow c = simp length-set (omega arith)
+
+narrow-requires : tie.Need-narrow-requires
+narrow-requires c κs = search needs
+
+slice-read-t20 : tie.Need-slice-read-t20
+slice-read-t20 c = simp length-set (omega arith)
+
+slice-read-t23 : tie.Need-slice-read-t23
+slice-read-t23 c = simp length-set (omega arith)
+
+same-length : tie.Need-same-length
+same-length c = search needs
 
 returns : tie.Need-returns
 returns c =
-    let row = c .before .lay .last .0 in
-    let long : length row ≡ 16 = search needs in
-    laid-by (c .before .before .before .before .before .args .before) row (c .before .before .before .item .result) (c .number-of .result) long (c .before .before .before .item .ensures) (c .before .lay .ensures) (c .number-of .ensures)
+    let row = c .before .before .before .before .before .before .before .lay .last .0 in
+    let long : length row ≡ 16 = omega (arith, c .before .before .before .before .before .before .row .given, c .before .before .before .before .before .before .before .before .before .before .before .before .pre) in
+    laid-by (c .before .before .before .before .before .before .before .before .before .before .before .before .args .before) row (c .before .before .before .before .before .before .before .before .before .item .result) (c .before .before .before .before .number-of .result) (c .before .before .narrow .result) long (c .before .before .before .before .before .before .before .before .before .item .ensures) (c .before .before .before .before .before .before .before .lay .ensures) (c .before .before .before .before .number-of .ensures) (c .before .before .narrow .ensures)
 
 pub read-spec : {M : Type 1} → statement M
 read-spec =
@@ -39,8 +55,13 @@ read-spec =
     item-requires
     lay-requires
     number-of-requires
-    element-write-row
-    element-write-row-2
-    element-write-row-3
-    element-write-row-4
+    slice-write-row
+    slice-write-row-2
+    slice-write-row-3
+    slice-write-row-4
+    slice-read-narrow
+    narrow-requires
+    slice-read-t20
+    slice-read-t23
+    same-length
     returns)
