@@ -53,6 +53,9 @@ puts-none {l} {at} = record { is = sym (stored-none l at); goes = omega arith }
 pub puts-one : {l : List ℕ} {at : ℕ} (cell : ℕ) → at < length l → Puts l at (cell ∷ []) (set l at cell) (at + 1)
 puts-one {l} {at} cell h = record { is = sym (stored-one l at cell); goes = omega arith }
 
+pub puts-two : {l : List ℕ} {at : ℕ} (a b : ℕ) → at + 2 ≤ length l → Puts l at (a ∷ b ∷ []) (set (set l at a) (at + 1) b) (at + 2)
+puts-two {l} {at} a b h = record { is = sym (stored-then l at a (b ∷ []) ∙ stored-one (set l at a) (at + 1) b); goes = omega arith }
+
 pub puts-four : {l : List ℕ} {at : ℕ} (a b c d : ℕ) → at + 4 ≤ length l
     → Puts l at (a ∷ b ∷ c ∷ d ∷ []) (set (set (set (set l at a) (at + 1) b) (at + 2) c) (at + 3) d) (at + 4)
 puts-four {l} {at} a b c d h =

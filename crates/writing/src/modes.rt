@@ -8,6 +8,7 @@ use super::numbers::byte;
 use super::numbers::few;
 use super::numbers::pair;
 use super::numbers::quad;
+use super::numbers::whole_quad;
 
 fn mode<'a>(buffer: &mut [u8], at: usize, names: &'a [u8], rows: &'a [u32], k: usize) -> usize
     requires { ⌜ k < 65536 ⌝ }
@@ -32,13 +33,32 @@ pub fn modes<'a>(buffer: &mut [u8], at: usize, names: &'a [u8], rows: &'a [u32],
     next
 }
 
-fn instruction(buffer: &mut [u8], at: usize, rows: &[u32], row: usize) -> usize
+// An instruction where the rows or the buffer may end within it.
+fn cut_instruction(buffer: &mut [u8], at: usize, rows: &[u32], row: usize) -> usize
     requires { ⌜ row < 2 ^ 32 ⌝ }
     ensures { λ r. ⌜ Puts (now (buffer .entry)) at (instructionAt (now (rows .entry)) row) (now (buffer .exit)) r ⌝ }
 {
     let coded = byte(buffer, at, cells::at32(rows, row));
     let first = quad(buffer, coded, cells::at32(rows, row + 1));
     quad(buffer, first, cells::at32(rows, row + 2))
+}
+
+fn instruction(buffer: &mut [u8], at: usize, rows: &[u32], row: usize) -> usize
+    requires { ⌜ row < 2 ^ 32 ⌝ }
+    ensures { λ r. ⌜ Puts (now (buffer .entry)) at (instructionAt (now (rows .entry)) row) (now (buffer .exit)) r ⌝ }
+{
+    if buffer.len() < 9 {
+        return cut_instruction(buffer, at, rows, row);
+    }
+    if buffer.len() - 9 < at {
+        return cut_instruction(buffer, at, rows, row);
+    }
+    if rows.len() < row + 3 {
+        return cut_instruction(buffer, at, rows, row);
+    }
+    buffer[at] = (rows[row] % 256) as u8;
+    let first = whole_quad(buffer, at + 1, rows[row + 1]);
+    whole_quad(buffer, first, rows[row + 2])
 }
 
 pub fn code(buffer: &mut [u8], at: usize, rows: &[u32], many: u32) -> usize

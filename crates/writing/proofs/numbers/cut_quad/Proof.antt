@@ -5,18 +5,18 @@ use borrow.Author.Needs.{needs}
 use Rattle.writing.proofs.numbers.cut_quad.Statement.{statement}
 use Rattle.writing.proofs.numbers.cut_quad.Tie as tie
 
-pair-requires : tie.Need-pair-requires
-pair-requires c κs = search needs
+cut-pair-requires : tie.Need-cut-pair-requires
+cut-pair-requires c κs = search needs
 
-pair-requires-2 : tie.Need-pair-requires-2
-pair-requires-2 c κs = search needs
+cut-pair-requires-2 : tie.Need-cut-pair-requires-2
+cut-pair-requires-2 c κs = search needs
 
 same-length : tie.Need-same-length
 same-length c = search needs
 
 returns : tie.Need-returns
 unfolding quadOf
-returns c = puts.puts-both (c .before .before .before .before .before .before .pair .ensures) (c .before .before .pair2 .ensures)
+returns c = puts.puts-both (c .before .before .before .before .before .before .cut-pair .ensures) (c .before .before .cut-pair2 .ensures)
 
 pub cut-quad-spec : {M : Type 1} → statement M
-cut-quad-spec = tie.close (tie.spec pair-requires pair-requires-2 same-length returns)
+cut-quad-spec = tie.close (tie.spec cut-pair-requires cut-pair-requires-2 same-length returns)
