@@ -9,6 +9,7 @@ use Rattle.refusals.specs.Checks.{Check}
 use Rattle.refusals.specs.Names.{moduleScope, sensorSort, named}
 use Rattle.refusals.specs.Values.{useRules}
 use Rattle.refusals.specs.Ports.{taskNamed, outputOf, portNamed, argumentNamed, dottedRules, placeRules, portRules, argumentRules}
+use Rattle.meanings.specs.Arguments.{plainPort, argument-undotted}
 
 -- the rules of both names, by what they mean
 abbrev pub partedRules : List ℕ → List Row → ℕ → Port → List Check
@@ -28,9 +29,12 @@ module _ (s : List ℕ) (rows : List Row) (wanted : ℕ) (port : Port) where
   unfolding placeRules portNamed
   port-plain e = simp e
 
-  pub argument-plain : port .dotted ≡ false → useRules wanted (argumentNamed s rows port) (port .first) ≡ argumentRules s rows wanted port
+  pub argument-plain : port .dotted ≡ false → useRules wanted (argumentNamed s rows (plainPort (port .first))) (port .first) ≡ argumentRules s rows wanted port
   unfolding placeRules
-  argument-plain e = simp e
+  argument-plain e = simp (argument-undotted s rows port e, e)
+
+  pub argument-plain-type : port .dotted ≡ false → argumentNamed s rows (plainPort (port .first)) .typ ≡ argumentNamed s rows port .typ
+  argument-plain-type e = simp (argument-undotted s rows port e)
 
   pub argument-type : port .dotted ≡ true → outputOf s rows (taskNamed s rows (port .first)) (port .second) .typ ≡ argumentNamed s rows port .typ
   unfolding portNamed argumentNamed

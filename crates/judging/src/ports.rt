@@ -96,7 +96,7 @@ pub fn argument_rules(s: &[u8], cells: &[usize], n: usize, wanted: usize, port: 
             typ: result.typ,
         };
     }
-    let row = meanings::argument_named(s, cells, n, port);
+    let row = meanings::plain_argument(s, cells, n, first);
     let verdict = super::use_rules(wanted, row, first);
     Argument {
         verdict: verdict,

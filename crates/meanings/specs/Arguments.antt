@@ -5,10 +5,20 @@ use mathlib.Core.Path.{_≡_, refl, _∙_}
 use mathlib.Core.List.{List}
 use mathlib.Core.Bool.{false}
 use borrow.Author.Tests.{ne-eqb}
+use Rattle.text.specs.declared.Name.{Name}
 use Rattle.text.specs.declared.Port.{Port}
 use Rattle.refusals.specs.declared.Row.{Row}
 use Rattle.refusals.specs.Names.{moduleScope, unknown, meaning, named}
 use Rattle.refusals.specs.Ports.{portNamed, argumentNamed}
+
+-- the port that is a name without a dot
+abbrev pub plainPort : Name → Port
+plainPort name = record { first = name; second = name; dotted = false }
+
+-- where there is no dot, nothing behind it counts
+pub argument-undotted : (s : List ℕ) (rows : List Row) (port : Port) → port .dotted ≡ false → argumentNamed s rows (plainPort (port .first)) ≡ argumentNamed s rows port
+unfolding argumentNamed portNamed
+argument-undotted s rows port plain = simp plain
 
 module _ (s : List ℕ) (rows : List Row) (port : Port) (plain : port .dotted ≡ false) {row : Row} (found : row ≡ meaning s rows moduleScope (port .first)) where
   pub argument-found : row .sort < 2 → row ≡ argumentNamed s rows port

@@ -9,6 +9,7 @@ ghost use Rattle.refusals.specs.Ports.{taskNamed, outputOf, portNamed, argument
 ghost use Rattle.refusals.specs.Activities.{functionNamed};
 ghost use Rattle.names.specs.Tables.{rowsIn, scopeOf};
 ghost use Rattle.names.specs.Index.{Indexed};
+ghost use Rattle.meanings.specs.Arguments.{plainPort};
 use names::Scope;
 use refusals::Row;
 use text::Literal;
@@ -90,12 +91,40 @@ pub fn port_named(s: &[u8], cells: &[usize], n: usize, port: Port) -> Row
     ensures { λ r. ⌜ (Indexed (now (s .entry)) (now (cells .entry)) → r ≡ portNamed (now (s .entry)) (rowsIn (now (cells .entry)) n) port) ⌝ }
 {
     let first = port.first;
+    let row = names::find(s, cells, n, Scope::Numbered(0), first.start, first.end);
     if port.dotted {
-        let task = task_named(s, cells, n, first);
+        if row.sort != 3 {
+            return names::unknown();
+        }
         let second = port.second;
-        return output_of(s, cells, n, task, second);
+        let output = names::find(
+            s,
+            cells,
+            n,
+            Scope::OfTask(row.value),
+            second.start,
+            second.end,
+        );
+        if output.sort == 6 {
+            return output;
+        }
+        return names::unknown();
     }
-    named(s, cells, n, Scope::Numbered(0), 1, first)
+    if row.sort == 1 {
+        return row;
+    }
+    names::unknown()
+}
+
+// What a guard's argument without a dot is: a constant or a sensor.
+pub fn plain_argument(s: &[u8], cells: &[usize], n: usize, name: Name) -> Row
+    ensures { λ r. ⌜ (Indexed (now (s .entry)) (now (cells .entry)) → r ≡ argumentNamed (now (s .entry)) (rowsIn (now (cells .entry)) n) (plainPort name)) ⌝ }
+{
+    let row = names::find(s, cells, n, Scope::Numbered(0), name.start, name.end);
+    if row.sort < 2 {
+        return row;
+    }
+    names::unknown()
 }
 
 // What a guard's argument is: a constant, or what is read at a port.
@@ -106,11 +135,7 @@ pub fn argument_named(s: &[u8], cells: &[usize], n: usize, port: Port) -> Row
         return port_named(s, cells, n, port);
     }
     let first = port.first;
-    let row = names::find(s, cells, n, Scope::Numbered(0), first.start, first.end);
-    if row.sort < 2 {
-        return row;
-    }
-    names::unknown()
+    plain_argument(s, cells, n, first)
 }
 
 // The type of a value as it is written.
