@@ -3,7 +3,7 @@ use Prim.Native.Nat.{ℕ, zero, suc, _+_, _-_, _≤_, _<_, min}
 use native.Mathlib.Omega.{arith}
 use native.Mathlib.Numerals.{add-one}
 use mathlib.Core.Path.{_≡_, refl, sym, ap, _∙_, subst}
-use mathlib.Core.List.{List, [], _∷_, _++_}
+use mathlib.Core.List.{List, [], _∷_, _++_, append-nil, append-assoc}
 use mathlib.Core.Bool.{Bool, true, false}
 use lib.Dec.{leb}
 use lib.ListN.{length, set, take, length-append, length-set}
@@ -111,3 +111,28 @@ puts-as {l} {m} {a} {b} {i} {j} e p = subst (λ (x : List ℕ). Puts l i x m j) 
 -- a number that is known by another name
 pub puts-of : {l m : List ℕ} {i j x y : ℕ} (f : ℕ → List ℕ) → x ≡ y → Puts l i (f x) m j → Puts l i (f y) m j
 puts-of f e p = puts-as (ap f e) p
+
+-- ---- parts by fours
+
+parts-next : (part : ℕ → List ℕ) (k next : ℕ) → next ≡ k + 1 → parts part k ++ part k ≡ parts part next
+unfolding parts
+parts-next part k next e = rw (e, add-one) refl
+
+parts-step : (part : ℕ → List ℕ) (k next : ℕ) (rest : List ℕ) → next ≡ k + 1 → parts part k ++ (part k ++ rest) ≡ parts part next ++ rest
+parts-step part k next rest e = sym (append-assoc (parts part k) (part k) rest) ∙ ap (λ (x : List ℕ). x ++ rest) (parts-next part k next e)
+
+-- the next four of some parts
+pub puts-four-more : {l m n : List ℕ} {i j o next : ℕ} (part : ℕ → List ℕ) (k : ℕ) → Puts l i (parts part k) m j
+    → Puts m j (part k ++ (part (k + 1) ++ (part (k + 2) ++ part (k + 3)))) n o → next ≡ k + 4 → Puts l i (parts part next) n o
+puts-four-more {next = next} part k p q e =
+    let second = parts-step part (k + 1) (k + 2) (part (k + 2) ++ part (k + 3)) (omega arith) in
+    let third = parts-step part (k + 2) (k + 3) (part (k + 3)) (omega arith) in
+    puts-as (parts-step part k (k + 1) (part (k + 1) ++ (part (k + 2) ++ part (k + 3))) refl ∙ second ∙ third ∙ parts-next part (k + 3) next (omega arith)) (puts-both p q)
+
+-- the first of some parts, and the others behind them
+pub parts-both : (part : ℕ → List ℕ) (a b : ℕ) → parts part a ++ parts (λ j. part (a + j)) b ≡ parts part (a + b)
+unfolding parts
+parts-both part a zero = let e : a ≡ a + 0 = omega arith in append-nil (parts part a) ∙ ap (parts part) e
+parts-both part a (suc b) =
+    let e : suc (a + b) ≡ a + suc b = omega arith in
+    sym (append-assoc (parts part a) (parts (λ j. part (a + j)) b) (part (a + b))) ∙ ap (λ (x : List ℕ). x ++ part (a + b)) (parts-both part a b) ∙ ap (parts part) e

@@ -1,6 +1,6 @@
 // Bytes and numbers, the highest byte first.
 ghost use mathlib.Core.Path.{_≡_};
-ghost use mathlib.Core.List.{[], _∷_};
+ghost use mathlib.Core.List.{[], _∷_, _++_};
 ghost use Prim.Native.Nat.{_+_, _≤_, min};
 ghost use lib.ListN.{length};
 ghost use Rattle.writing.specs.Puts.{Puts};
@@ -15,6 +15,18 @@ pub(crate) fn put(buffer: &mut [u8], at: usize, number: u8) -> usize
         return at + 1;
     }
     at
+}
+
+// Four bytes that the buffer has room for.
+pub(crate) fn four(buffer: &mut [u8], at: usize, a: u8, b: u8, c: u8, d: u8) -> usize
+    requires { ⌜ at + 4 ≤ length (now buffer) ⌝ }
+    ensures { λ r. ⌜ Puts (now (buffer .entry)) at (byteOf a ++ (byteOf b ++ (byteOf c ++ byteOf d))) (now (buffer .exit)) r × (r ≡ at + 4) ⌝ }
+{
+    buffer[at] = a;
+    buffer[at + 1] = b;
+    buffer[at + 2] = c;
+    buffer[at + 3] = d;
+    at + 4
 }
 
 pub(crate) fn byte(buffer: &mut [u8], at: usize, number: u32) -> usize

@@ -1,76 +1,79 @@
-use mathlib.Core.Path.{_≡_, refl, _∙_}
-use Prim.Native.Nat.{_+_, _-_, _≤_, _<_}
-use lib.ListN.{length}
+use mathlib.Core.Path.{_≡_, ap, _∙_}
+use Prim.Native.Nat.{_+_, _-_, _*_}
 use Rattle.writing.specs.Puts as puts
-use Rattle.writing.specs.Puts.{Puts, parts}
-use Rattle.writing.specs.Cells.{cell, byteOf}
-use borrow.Author.Needs.{needs}
+use Rattle.writing.specs.Puts.{parts}
+use Rattle.writing.specs.Cells.{cell, byteOf, nameIn}
 use native.Mathlib.Omega.{arith}
+use borrow.Author.Needs.{needs}
 use Rattle.writing.proofs.names.name.Statement.{statement}
 use Rattle.writing.proofs.names.name.Tie as tie
 
-abbrev Inv-loop : tie.InvT-loop
-Inv-loop buffer₀ at names row size n next₀ k₀ buffer next k = (n ≡ size) × (n < 256) × (k ≤ n) × (length buffer ≡ length buffer₀) × Puts buffer₀ next₀ (parts (λ j. byteOf (cell names (row + 1 + j))) k) buffer next
-
-abbrev μ-loop : tie.MeasureT-loop
-μ-loop buffer₀ at names row size n next₀ k₀ buffer next k = n - k
-
-at8-requires : tie.Need-at8-requires Inv-loop μ-loop
+at8-requires : tie.Need-at8-requires
 at8-requires c κs = search needs
 
-wide8-requires : tie.Need-wide8-requires Inv-loop μ-loop
+wide8-requires : tie.Need-wide8-requires
 wide8-requires c κs = search needs
 
-put-requires : tie.Need-put-requires Inv-loop μ-loop
+put-requires : tie.Need-put-requires
 put-requires c κs = search needs
 
-loop-holds : tie.Need-loop-holds Inv-loop μ-loop
-loop-holds c = (c .before .before .before .before .wide8 .ensures .0, c .before .before .before .before .wide8 .ensures .1, omega arith, refl, puts.puts-begin _)
+add-fours : tie.Need-add-fours
+add-fours c = search needs
 
-add-at8 : tie.Need-add-at8 Inv-loop μ-loop
-add-at8 c = search needs
+fours-requires : tie.Need-fours-requires
+fours-requires c κs = search needs
 
-add-at8-2 : tie.Need-add-at8-2 Inv-loop μ-loop
-add-at8-2 c = search needs
+add-by-fours : tie.Need-add-by-fours
+add-by-fours c = search needs
 
-at8-requires-2 : tie.Need-at8-requires-2 Inv-loop μ-loop
-at8-requires-2 c κs = search needs
+by-fours-requires : tie.Need-by-fours-requires
+by-fours-requires c κs = search needs
 
-put-requires-2 : tie.Need-put-requires-2 Inv-loop μ-loop
-put-requires-2 c κs = search needs
+add-singly : tie.Need-add-singly
+add-singly c = search needs
 
-add-k : tie.Need-add-k Inv-loop μ-loop
-add-k c = search needs
+mul-singly : tie.Need-mul-singly
+mul-singly c = search needs
 
-loop-less : tie.Need-loop-less Inv-loop μ-loop
-loop-less c = search needs
+mul-singly-2 : tie.Need-mul-singly-2
+mul-singly-2 c = search needs
 
-loop-again : tie.Need-loop-again Inv-loop μ-loop
-loop-again c = let i = c .before .before .before .before .before .before .loop .inv in (i .0, i .1, omega arith, search needs, puts.puts-more _ (i .4) (puts.puts-of byteOf (c .before .before .before .at82 .ensures) (c .before .before .put2 .ensures)) refl)
+sub-singly : tie.Need-sub-singly
+sub-singly c = search needs
 
-same-length : tie.Need-same-length Inv-loop μ-loop
+singly-requires : tie.Need-singly-requires
+singly-requires c κs = search needs
+
+same-length : tie.Need-same-length
 same-length c = search needs
 
-returns : tie.Need-returns Inv-loop μ-loop
-unfolding Rattle.writing.specs.Cells.nameIn
-returns c = let i = c .before .loop .inv in let e : c .before .loop .k ≡ c .before .before .before .before .before .before .before .at8 .result = omega arith in let p = c .before .before .before .before .before .before .before .at8 .ensures in puts.puts-both (puts.puts-of byteOf p (c .before .before .before .before .put .ensures)) (puts.puts-of (parts _) (e ∙ p) (i .4))
+returns : tie.Need-returns
+unfolding nameIn
+returns c =
+    let p = c .before .before .before .before .before .before .before .before .before .before .before .before .before .before .at8 .ensures in
+    let w = c .before .before .before .before .before .before .before .before .before .before .before .before .before .wide8 .ensures in
+    let f = c .before .before .before .before .before .before .before .before .fours .ensures in
+    let many = c .before .before .before .before .before .before .before .before .fours .result in
+    let n = c .before .before .before .before .before .before .before .before .before .before .before .before .before .wide8 .result in
+    let e : many * 4 + (n - many * 4) ≡ n = omega (arith, f .0) in
+    puts.puts-both (puts.puts-of byteOf p (c .before .before .before .before .before .before .before .before .before .before .before .put .ensures))
+    (puts.puts-as (puts.parts-both _ (many * 4) (n - many * 4) ∙ ap (parts _) (e ∙ w .0 ∙ p)) (puts.puts-both (c .before .before .before .before .before .before .by-fours .ensures) (c .before .before .singly .ensures)))
 
 pub name-spec : {M : Type 1} → statement M
 name-spec =
     tie.close
     (tie.spec
-    Inv-loop
-    μ-loop
     at8-requires
     wide8-requires
     put-requires
-    loop-holds
-    add-at8
-    add-at8-2
-    at8-requires-2
-    put-requires-2
-    add-k
-    loop-less
-    loop-again
+    add-fours
+    fours-requires
+    add-by-fours
+    by-fours-requires
+    add-singly
+    mul-singly
+    mul-singly-2
+    sub-singly
+    singly-requires
     same-length
     returns)
