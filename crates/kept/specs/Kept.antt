@@ -30,3 +30,13 @@ pub record Laid (s : List ℕ) (state : State) (before at : ℕ) (row : List ℕ
   pub next : ahead ≡ getD row 4 0
   pub refusal : refused ≡ getD row 7 0 % 256
   pub site : spot ≡ getD row 8 0
+
+-- what a search looks at in a row that is the item of the text at this place, in the state of this number
+pub record Looked (s : List ℕ) (state at sort start end beyond ahead : ℕ) : Type 0 where
+  pub row : List ℕ
+  pub told : readOf row ≡ itemAt s (stateOf state) at
+  pub kind : sort ≡ getD row 0 0
+  pub from : start ≡ getD row 5 0
+  pub to : end ≡ getD row 6 0
+  pub behind : beyond ≡ getD row 3 0
+  pub next : ahead ≡ getD row 4 0

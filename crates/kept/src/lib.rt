@@ -6,9 +6,18 @@ ghost use lib.ListN.{length, getD};
 ghost use mathlib.Core.Path.{_≡_};
 ghost use Rattle.text.specs.Items.{itemAt};
 ghost use Rattle.kept.specs.Rows.{stateOf, readOf};
-ghost use Rattle.kept.specs.Kept.{Kept};
+ghost use Rattle.kept.specs.Kept.{Kept, Looked};
 use text::ReadItem;
 use text::State;
+
+// What a search for a name looks at in a row: its kind, where its first name starts and ends, and the state and the place behind it.
+pub struct Seen {
+    pub kind: usize,
+    pub start: usize,
+    pub end: usize,
+    pub behind: usize,
+    pub next: usize,
+}
 
 mod fetching;
 mod pass;
@@ -86,4 +95,36 @@ pub fn fetch<'a>(
         }
     }
     anew(s, state, at, row);
+}
+
+// What a search looks at in the item at a place, in a state by its number: as it stands in row k where that is of this place and state.
+pub fn look<'a>(s: &'a [u8], memo: &'a [usize], k: usize, state: usize, at: usize) -> Seen
+    ensures { λ r. ⌜ (Kept (now (s .entry)) (now (memo .entry)) → Looked (now (s .entry)) state at (r .kind) (r .start) (r .end) (r .behind) (r .next)) ⌝ }
+{
+    let rows = held(memo);
+    if k < rows {
+        let first = k * 16 + 16;
+        let end = first + 16;
+        let from = &memo[first..end];
+        if from[2] == at {
+            if from[1] == state {
+                return Seen {
+                    kind: from[0],
+                    start: from[5],
+                    end: from[6],
+                    behind: from[3],
+                    next: from[4],
+                };
+            }
+        }
+    }
+    let mut row = [0usize; 16];
+    anew(s, state, at, &mut row);
+    Seen {
+        kind: row[0],
+        start: row[5],
+        end: row[6],
+        behind: row[3],
+        next: row[4],
+    }
 }
