@@ -1,6 +1,9 @@
 // The target of a switch: whether its name means a mode, which may be declared further on.
 // Promises that the answer is that of the names declared so far, or else of the first mode of that name in the items to come, for every text whose items are kept, every table whose index is right for it, and every place.
 // Builds on the kept items of a text, on the table of names, and on what the rules say of a name.
+ghost use Prim.Native.Nat.{ℕ};
+ghost use lib.ListN.{getD};
+ghost use mathlib.Core.List.{List};
 ghost use mathlib.Core.Path.{_≡_};
 ghost use Rattle.text.specs.Items.{goes as goesOn, itemsFrom};
 ghost use Rattle.refusals.specs.Names.{letters};
@@ -14,12 +17,12 @@ use text::Item;
 use text::Name;
 use text::State;
 
-// Whether the item of a row begins a mode of the name sought.
-fn begins(s: &[u8], row: &[usize; 16], sought: Name) -> bool
-    ensures { λ r. ⌜ r ≡ beginsMode (now (s .entry)) (letters (now (s .entry)) sought) (itemOf (fieldsIn (now (row .entry)))) ⌝ }
+// Whether an item of this kind, with a name from start to end, begins a mode of the name sought.
+fn begins(s: &[u8], kind: usize, start: usize, end: usize, sought: Name) -> bool
+    ensures { λ r. ⌜ ((row : List ℕ) → kind ≡ getD row 0 0 → start ≡ getD row 5 0 → end ≡ getD row 6 0 → r ≡ beginsMode (now (s .entry)) (letters (now (s .entry)) sought) (itemOf (fieldsIn row))) ⌝ }
 {
-    if row[0] == 9 {
-        return names::same_parts(s, row[5], row[6], sought.start, sought.end);
+    if kind == 9 {
+        return names::same_parts(s, start, end, sought.start, sought.end);
     }
     false
 }
@@ -48,24 +51,23 @@ fn ahead<'a>(
 ) -> bool
     ensures { λ r. ⌜ (Kept (now (s .entry)) (now (memo .entry)) → r ≡ modeAhead (now (s .entry)) (letters (now (s .entry)) sought) (itemsFrom (now (s .entry)) state at)) ⌝ }
 {
-    let mut row = [0usize; 16];
     let mut number = k;
     let mut behind = kept::number_of(state);
     let mut place = at;
     while place <= s.len() {
-        kept::fetch(s, memo, number, behind, place, &mut row);
-        if begins(s, &row, sought) {
+        let seen = kept::look(s, memo, number, behind, place);
+        if begins(s, seen.kind, seen.start, seen.end, sought) {
             return true;
         }
-        if 18 < row[0] {
+        if 18 < seen.kind {
             return false;
         }
-        let next = row[4];
+        let next = seen.next;
         if next <= place {
             return false;
         }
         number = std::num::wrapping_add_usize(number, 1);
-        behind = row[3];
+        behind = seen.behind;
         place = next;
     }
     false
