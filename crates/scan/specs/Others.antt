@@ -1,15 +1,19 @@
 -- Bytes that start a token: signs, and those that are no small letter and no sign.
 use Prim.Native.Nat.{ℕ, _+_, _<_}
-use mathlib.Core.Path.{_≡_, ap, _∙_}
+use mathlib.Core.Path.{_≡_, refl, sym, ap, _∙_}
 use mathlib.Core.List.{List}
 use mathlib.Core.Bool.{true, false}
 use native.Mathlib.Omega.{arith}
 use lib.ListN.{length, getD}
 use lib.Seq.{slice}
 use lib.Dec.{eqb}
+use borrow.Author.Tests.{eqb-false}
+use Rattle.text.specs.declared.Token as tokens
 use Rattle.text.specs.declared.Token.the-variants as Token
+use Rattle.text.specs.Spaces.{white}
+use Rattle.text.specs.SpacesLaws.{spaces-other}
 use Rattle.text.specs.Words.{letter, digit, wordByte, munchAt}
-use Rattle.text.specs.Tokens.{wordToken, signToken, lexed, startsAt}
+use Rattle.text.specs.Tokens.{wordToken, signToken, lexed, startsAt, tokenAt}
 use Rattle.text.specs.StartsLaws as starts
 use Rattle.text.specs.TokensLaws.{munch-at-within}
 use Rattle.scan.specs.declared.Alone.{Alone}
@@ -49,6 +53,63 @@ starts-plain s at b h e p =
     let d : digit (getD s at 0) ≡ false = rw e (p .uncounted) in
     let c : eqb (getD s at 0) 58 ≡ false = rw e (p .uncolon) in
     starts.starts-sign s at h l d (simp c) ∙ rw e
+
+-- a byte that is a sign wherever it is reached
+pub record Standing (b : ℕ) (t : tokens.Token) : Type 0 where
+  pub plain : Plain b
+  pub dark : white b ≡ false
+  pub unslashed : eqb b 47 ≡ false
+  pub sign : signToken b ≡ t
+
+pub left-brace : Standing 123 Token.LeftBrace
+unfolding signToken
+left-brace = record { plain = record { unlettered = refl; uncounted = refl; uncolon = refl }; dark = refl; unslashed = refl; sign = refl }
+
+pub right-brace : Standing 125 Token.RightBrace
+unfolding signToken
+right-brace = record { plain = record { unlettered = refl; uncounted = refl; uncolon = refl }; dark = refl; unslashed = refl; sign = refl }
+
+pub left-bracket : Standing 91 Token.LeftBracket
+unfolding signToken
+left-bracket = record { plain = record { unlettered = refl; uncounted = refl; uncolon = refl }; dark = refl; unslashed = refl; sign = refl }
+
+pub right-bracket : Standing 93 Token.RightBracket
+unfolding signToken
+right-bracket = record { plain = record { unlettered = refl; uncounted = refl; uncolon = refl }; dark = refl; unslashed = refl; sign = refl }
+
+pub left-paren : Standing 40 Token.LeftParen
+unfolding signToken
+left-paren = record { plain = record { unlettered = refl; uncounted = refl; uncolon = refl }; dark = refl; unslashed = refl; sign = refl }
+
+pub right-paren : Standing 41 Token.RightParen
+unfolding signToken
+right-paren = record { plain = record { unlettered = refl; uncounted = refl; uncolon = refl }; dark = refl; unslashed = refl; sign = refl }
+
+pub semicolon : Standing 59 Token.Semicolon
+unfolding signToken
+semicolon = record { plain = record { unlettered = refl; uncounted = refl; uncolon = refl }; dark = refl; unslashed = refl; sign = refl }
+
+pub equals : Standing 61 Token.Equals
+unfolding signToken
+equals = record { plain = record { unlettered = refl; uncounted = refl; uncolon = refl }; dark = refl; unslashed = refl; sign = refl }
+
+pub dot : Standing 46 Token.Dot
+unfolding signToken
+dot = record { plain = record { unlettered = refl; uncounted = refl; uncolon = refl }; dark = refl; unslashed = refl; sign = refl }
+
+pub comma : Standing 44 Token.Comma
+unfolding signToken
+comma = record { plain = record { unlettered = refl; uncounted = refl; uncolon = refl }; dark = refl; unslashed = refl; sign = refl }
+
+pub minus : Standing 45 Token.Minus
+unfolding signToken
+minus = record { plain = record { unlettered = refl; uncounted = refl; uncolon = refl }; dark = refl; unslashed = refl; sign = refl }
+
+-- the token at a place where such a byte stands
+pub at-once : (s : List ℕ) (at b : ℕ) (t : tokens.Token) → at < length s → getD s at 0 ≡ b → Standing b t → tokenAt s at ≡ lexed t at (at + 1)
+at-once s at b t h e p =
+    let reached = spaces-other s at h (rw e (p .dark)) (λ q. eqb-false _ _ (p .unslashed) (sym e ∙ q)) in
+    starts.token-behind s at _ refl at reached ∙ starts-plain s at b h e (p .plain) ∙ rw (p .sign)
 
 module _ (s : List ℕ) (at b : ℕ) (o : Other s at b) where
   pub starts-number : digit b ≡ true → startsAt s at ≡ lexed Token.Number at (munchAt digit s (at + 1))

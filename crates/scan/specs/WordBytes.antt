@@ -75,6 +75,23 @@ pub low-takes : (number : Bool) (b : ℕ) → b < 48 → takes number b ≡ fals
 low-takes true b h = simp (lt-leb 48 b h)
 low-takes false b h = low-word b h
 
+last-way : (l d : Bool) → d ≡ false → l ≡ cond l true d
+last-way true d e = refl
+last-way false d e = sym e
+
+-- a digit goes on both, a letter only a name
+pub digit-takes : (number : Bool) (b : ℕ) → digit b ≡ true → takes number b ≡ true
+digit-takes true b e = e
+digit-takes false b e = either-way (letter b) e
+
+pub undigit-takes : (number : Bool) (b : ℕ) → number ≡ true → digit b ≡ false → takes number b ≡ false
+undigit-takes true b n e = e
+undigit-takes false b n e = never (sym n)
+
+pub letter-takes : (number : Bool) (b : ℕ) → number ≡ false → digit b ≡ false → letter b ≡ takes number b
+letter-takes true b n e = never n
+letter-takes false b n e = last-way (letter b) (digit b) e
+
 -- a byte that goes on a name is not the last
 pub further : (s : List ℕ) (i : ℕ) → getD s (length s - 1) 0 < 48 → i < length s → wordByte (getD s i 0) ≡ true → i + 1 < length s
 further s i low h w = by (ltb (i + 1) (length s)) refl

@@ -167,6 +167,25 @@ pub fn token(s: &[u8], at: usize) -> Lexed
     }
 }
 
+// The token at a place of a list of names; the sign behind a name mostly stands at the place itself.
+pub fn list_token(s: &[u8], at: usize) -> Lexed
+    ensures { λ r. ⌜ r ≡ tokenAt (now (s .entry)) at ⌝ }
+{
+    if at < s.len() {
+        let b = s[at];
+        if b == b',' {
+            return found(Token::Comma, at, at + 1);
+        }
+        if b == b')' {
+            return found(Token::RightParen, at, at + 1);
+        }
+        if b == b'.' {
+            return found(Token::Dot, at, at + 1);
+        }
+    }
+    token(s, at)
+}
+
 // The number of the token at a place.
 pub fn code_at(s: &[u8], at: usize) -> u8
     ensures { λ r. ⌜ r ≡ codeAt (now (s .entry)) at ⌝ }

@@ -75,16 +75,16 @@ pub fn is_digit(b: u8) -> bool
 fn goes_on(b: u8, number: bool) -> bool
     ensures { λ r. ⌜ r ≡ takes number b ⌝ }
 {
+    if is_digit(b) {
+        return true;
+    }
+    if number {
+        return false;
+    }
     if b < b'0' {
         return false;
     }
-    if number {
-        return is_digit(b);
-    }
-    if is_letter(b) {
-        return true;
-    }
-    is_digit(b)
+    is_letter(b)
 }
 
 // The place behind the longest run of bytes that go on a number, or else a name.
