@@ -142,6 +142,16 @@ pub fn next(s: &[u8], g: Got, t: Token) -> Got
     ensures { λ r. ⌜ r ≡ want t (now (s .entry)) g ⌝ }
 {
     let at = g.end;
+    if g.bad == 0 {
+        let end = signs::end_at(s, at, t);
+        if end != at {
+            return Got {
+                bad: 0,
+                start: end - 1,
+                end: end,
+            };
+        }
+    }
     let found = scan::token(s, at);
     given(g, found, t)
 }

@@ -1,7 +1,7 @@
 // Signs that were found.
 ghost use mathlib.Core.Path.{_≡_};
 ghost use Rattle.text.specs.declared.Token.{Token};
-ghost use Rattle.wants.specs.Given.{wantOf};
+ghost use Rattle.wants.specs.Given.{wantOf, SignByte, SignEnd};
 use super::other;
 use super::refuse;
 use super::took;
@@ -148,4 +148,49 @@ pub(crate) fn given(g: Got, found: Lexed, t: Token) -> Got
         Token::Minus => minus(g, found),
         _ => other(g, found, t),
     }
+}
+
+// The byte that a sign is, 0 for any other token.
+fn byte_of(t: Token) -> u8
+    ensures { λ r. ⌜ SignByte t r ⌝ }
+{
+    match t {
+        Token::LeftBrace => b'{',
+        Token::RightBrace => b'}',
+        Token::LeftBracket => b'[',
+        Token::RightBracket => b']',
+        Token::LeftParen => b'(',
+        Token::RightParen => b')',
+        Token::Semicolon => b';',
+        Token::Equals => b'=',
+        Token::Dot => b'.',
+        Token::Comma => b',',
+        Token::Minus => b'-',
+        _ => 0,
+    }
+}
+
+// The place behind the sign t that stands at a place or behind a blank there; the place where neither is so.
+pub(crate) fn end_at(s: &[u8], at: usize, t: Token) -> usize
+    ensures { λ r. ⌜ SignEnd (now (s .entry)) at t r ⌝ }
+{
+    let b = byte_of(t);
+    if b == 0 {
+        return at;
+    }
+    if at < s.len() {
+        let first = s[at];
+        let next = at + 1;
+        if first == b {
+            return next;
+        }
+        if first == b' ' {
+            if next < s.len() {
+                if s[next] == b {
+                    return next + 1;
+                }
+            }
+        }
+    }
+    at
 }
