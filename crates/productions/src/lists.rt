@@ -12,7 +12,7 @@ fn counted(s: &[u8], at: usize) -> usize
     let mut i = at;
     let mut n = 1;
     while i < s.len() {
-        let next = scan::token(s, i);
+        let next = scan::list_token(s, i);
         let token = next.token;
         match token {
             Token::Comma => {

@@ -48,12 +48,12 @@ pub fn read(s: &[u8], g: Got) -> Ahead
 {
     let name = wants::next_name(s, g);
     let at = name.end;
-    let found = scan::token(s, at);
+    let found = scan::list_token(s, at);
     if wants::stands(found, Token::Dot) {
         let dot = wants::given_dot(name, found);
         let output = wants::next_name(s, dot);
         let end = output.end;
-        let behind = scan::token(s, end);
+        let behind = scan::list_token(s, end);
         return with(output, name, output, true, behind);
     }
     with(name, name, name, false, found)

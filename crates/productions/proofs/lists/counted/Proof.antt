@@ -23,8 +23,8 @@ loop-holds : tie.Need-loop-holds Inv-loop μ-loop
 unfolding countAt
 loop-holds c = (omega arith, refl)
 
-token-requires : tie.Need-token-requires Inv-loop μ-loop
-token-requires c κs = search needs
+list-token-requires : tie.Need-list-token-requires Inv-loop μ-loop
+list-token-requires c κs = search needs
 
 enum-told : tie.Need-enum-told Inv-loop μ-loop
 enum-told c = search needs
@@ -43,12 +43,12 @@ returns c =
     let loop = c .before .before .before .loop in
     let loop-test = c .before .before .loop-test in
     let rest = T.Comma ∷ T.Name ∷ T.Dot ∷ [] in
-    sym (loop .inv .1 ∙ law.count-out _ _ _ _ (loop-test .taken) (c .before .token .ensures) refl _ (eqb-false _ _ (other-code rest 12 tt (c .before .token .result .token) (c .match .keys4))) (eqb-false _ _ (other-code rest 0 tt (c .before .token .result .token) (c .match .keys4))) (eqb-false _ _ (other-code rest 10 tt (c .before .token .result .token) (c .match .keys4))))
+    sym (loop .inv .1 ∙ law.count-out _ _ _ _ (loop-test .taken) (c .before .list-token .ensures) refl _ (eqb-false _ _ (other-code rest 12 tt (c .before .list-token .result .token) (c .match .keys4))) (eqb-false _ _ (other-code rest 0 tt (c .before .list-token .result .token) (c .match .keys4))) (eqb-false _ _ (other-code rest 10 tt (c .before .list-token .result .token) (c .match .keys4))))
 
 loop-less : tie.Need-loop-less Inv-loop μ-loop
 loop-less c =
     let loop-test = c .before .before .before .loop-test in
-    let token = c .before .before .token in
+    let token = c .before .before .list-token in
     let ahead = law.count-ahead _ _ _ _ (loop-test .taken) (token .ensures) refl (omega (arith, ap codeOf (c .enum-told .given .1))) in
     omega (arith, ahead)
 
@@ -56,14 +56,14 @@ loop-again : tie.Need-loop-again Inv-loop μ-loop
 loop-again c =
     let loop = c .before .before .before .before .loop in
     let loop-test = c .before .before .before .loop-test in
-    let token = c .before .before .token in
+    let token = c .before .before .list-token in
     let ahead = law.count-ahead _ _ _ _ (loop-test .taken) (token .ensures) refl (omega (arith, ap codeOf (c .enum-told .given .1))) in
     (omega (arith, ahead), loop .inv .1 ∙ law.count-comma _ _ _ _ (loop-test .taken) (token .ensures) refl _ (ap codeOf (c .enum-told .given .1)))
 
 loop-less-2 : tie.Need-loop-less-2 Inv-loop μ-loop
 loop-less-2 c =
     let loop-test = c .before .before .before .loop-test in
-    let token = c .before .before .token in
+    let token = c .before .before .list-token in
     let ahead = law.count-ahead _ _ _ _ (loop-test .taken) (token .ensures) refl (omega (arith, ap codeOf (c .enum-told2 .given .1))) in
     omega (arith, ahead)
 
@@ -71,14 +71,14 @@ loop-again-2 : tie.Need-loop-again-2 Inv-loop μ-loop
 loop-again-2 c =
     let loop = c .before .before .before .before .loop in
     let loop-test = c .before .before .before .loop-test in
-    let token = c .before .before .token in
+    let token = c .before .before .list-token in
     let ahead = law.count-ahead _ _ _ _ (loop-test .taken) (token .ensures) refl (omega (arith, ap codeOf (c .enum-told2 .given .1))) in
     (omega (arith, ahead), loop .inv .1 ∙ law.count-name _ _ _ _ (loop-test .taken) (token .ensures) refl _ (ap codeOf (c .enum-told2 .given .1)))
 
 loop-less-3 : tie.Need-loop-less-3 Inv-loop μ-loop
 loop-less-3 c =
     let loop-test = c .before .before .before .loop-test in
-    let token = c .before .before .token in
+    let token = c .before .before .list-token in
     let ahead = law.count-ahead _ _ _ _ (loop-test .taken) (token .ensures) refl (omega (arith, ap codeOf (c .enum-told3 .given .1))) in
     omega (arith, ahead)
 
@@ -86,7 +86,7 @@ loop-again-3 : tie.Need-loop-again-3 Inv-loop μ-loop
 loop-again-3 c =
     let loop = c .before .before .before .before .loop in
     let loop-test = c .before .before .before .loop-test in
-    let token = c .before .before .token in
+    let token = c .before .before .list-token in
     let ahead = law.count-ahead _ _ _ _ (loop-test .taken) (token .ensures) refl (omega (arith, ap codeOf (c .enum-told3 .given .1))) in
     (omega (arith, ahead), loop .inv .1 ∙ law.count-dot _ _ _ _ (loop-test .taken) (token .ensures) refl _ (ap codeOf (c .enum-told3 .given .1)))
 
@@ -102,7 +102,7 @@ counted-spec =
     Inv-loop
     μ-loop
     loop-holds
-    token-requires
+    list-token-requires
     enum-told
     add-n
     enum-told-2
