@@ -2,3 +2,4 @@ pub mod Rows
 pub mod Kept
 pub mod KeptLaws
 pub mod Kinds
+pub mod States

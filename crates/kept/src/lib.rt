@@ -7,8 +7,6 @@ ghost use mathlib.Core.Path.{_≡_};
 ghost use Rattle.text.specs.Items.{itemAt};
 ghost use Rattle.kept.specs.Rows.{stateOf, readOf};
 ghost use Rattle.kept.specs.Kept.{Kept, Looked};
-use text::ReadItem;
-use text::State;
 
 // What a search for a name looks at in a row: its kind, where its first name starts and ends, and the state and the place behind it.
 pub struct Seen {
@@ -51,16 +49,6 @@ fn held(memo: &[usize]) -> usize
         return many;
     }
     room
-}
-
-// The item at a place, in a state: that of row k if the row is of this place and state.
-pub fn item<'a>(s: &'a [u8], memo: &'a [usize], k: usize, state: State, at: usize) -> ReadItem
-    ensures { λ r. ⌜ (Kept (now (s .entry)) (now (memo .entry)) → r ≡ itemAt (now (s .entry)) state at) ⌝ }
-{
-    let mut row = [0usize; 16];
-    let number = states::number_of(state);
-    fetch(s, memo, k, number, at, &mut row);
-    fetching::read(&row)
 }
 
 // The row of the item that is read at a place, in a state by its number.

@@ -2,6 +2,7 @@
 ghost use Prim.Native.Nat.{_+_, _*_, _/_, _%_, _<_};
 ghost use mathlib.Core.Path.{_≡_};
 ghost use Rattle.kept.specs.Rows.{stateOf};
+ghost use Rattle.kept.specs.States.{whichOf, sectionOf};
 use text::State;
 
 pub fn wide(number: u8) -> usize
@@ -25,21 +26,47 @@ fn beside(which: usize, section: u8) -> usize
     behind * 16 + which
 }
 
+// Which state it is, its section aside.
+fn which(state: State) -> usize
+    ensures { λ r. ⌜ r ≡ whichOf state ⌝ }
+{
+    match state {
+        State::Begin => 0,
+        State::Module(_) => 1,
+        State::Task(_) => 2,
+        State::Mode(_) => 3,
+        State::Act(_) => 4,
+        State::Guarded(_) => 5,
+        State::GuardArgs(_) => 6,
+        State::Args => 7,
+        State::Finish => 8,
+    }
+}
+
+// The section of a state, or 0.
+fn section(state: State) -> u8
+    ensures { λ r. ⌜ r ≡ sectionOf state ⌝ }
+{
+    match state {
+        State::Begin => 0,
+        State::Module(section) => section,
+        State::Task(section) => section,
+        State::Mode(section) => section,
+        State::Act(section) => section,
+        State::Guarded(section) => section,
+        State::GuardArgs(section) => section,
+        State::Args => 0,
+        State::Finish => 0,
+    }
+}
+
 // The number of a state.
 pub fn number_of(state: State) -> usize
     ensures { λ r. ⌜ stateOf r ≡ state ⌝ }
 {
-    match state {
-        State::Begin => 0,
-        State::Module(section) => beside(1, section),
-        State::Task(section) => beside(2, section),
-        State::Mode(section) => beside(3, section),
-        State::Act(section) => beside(4, section),
-        State::Guarded(section) => beside(5, section),
-        State::GuardArgs(section) => beside(6, section),
-        State::Args => 7,
-        State::Finish => 8,
-    }
+    let own = which(state);
+    let behind = section(state);
+    beside(own, behind)
 }
 
 // The state of a number.

@@ -5,7 +5,7 @@ ghost use Prim.Native.Nat.{ℕ};
 ghost use lib.ListN.{getD};
 ghost use mathlib.Core.List.{List};
 ghost use mathlib.Core.Path.{_≡_};
-ghost use Rattle.text.specs.Items.{goes as goesOn, itemsFrom};
+ghost use Rattle.text.specs.Items.{itemsFrom};
 ghost use Rattle.refusals.specs.Names.{letters};
 ghost use Rattle.kept.specs.Rows.{fieldsIn, itemOf};
 ghost use Rattle.kept.specs.Kept.{Kept};
@@ -13,7 +13,6 @@ ghost use Rattle.names.specs.Index.{Indexed};
 ghost use Rattle.names.specs.Tables.{rowsIn};
 ghost use Rattle.targets.specs.Ahead.{begins as beginsMode, modeAhead, isTarget};
 use names::Scope;
-use text::Item;
 use text::Name;
 use text::State;
 
@@ -25,19 +24,6 @@ fn begins(s: &[u8], kind: usize, start: usize, end: usize, sought: Name) -> bool
         return names::same_parts(s, start, end, sought.start, sought.end);
     }
     false
-}
-
-// Whether items follow an item: it is neither a refusal nor the end.
-pub fn goes(item: Item) -> bool
-    ensures { λ r. ⌜ r ≡ goesOn item ⌝ }
-{
-    if let Item::No { number: _, at: _ } = item {
-        return false;
-    }
-    if let Item::End = item {
-        return false;
-    }
-    true
 }
 
 // Whether one of the items from a place on begins a mode of the name sought; the first of them is item k.
