@@ -7,16 +7,16 @@ use native.Mathlib.Omega.{arith}
 use borrow.Author.Tests.{ltb-true, ltb-false}
 use borrow.Rule.Slice.PartMut.{putMid, post-is}
 use lib.Dec.{ltb}
-use lib.ListN.{length, getD, set, take, drop, length-append, length-set, drop-of-length-le, List·getD-eq-default}
-use lib.Seq.{sets, sets-eq, length-sets, length-take-le, take-at, drop-at, drop-append-le, drop-set-lt, drop-set-add, take-set-le, getD-set-same, drop-cons}
+use lib.ListN.{length, getD, set, take, drop, length-append, drop-of-length-le, List·getD-eq-default}
+use lib.Seq.{sets, sets-eq, length-sets, length-take-le, take-at, drop-at, drop-append-le, drop-set-lt, drop-set-add, drop-drop, drop-length, take-set-le, getD-set-same, drop-cons}
 use Rattle.text.specs.declared.State.{State}
 use Rattle.text.specs.declared.State.the-variants as Q
 use Rattle.text.specs.declared.Literal.the-variants as L
 use Rattle.text.specs.declared.Item.the-variants as I
 use Rattle.text.specs.declared.ReadItem.{ReadItem}
 use Rattle.text.specs.Items.{itemAt}
-use Rattle.kept.specs.Rows.{Fields, fieldsIn, itemOf, states, stateOf, nameOf, literals, literalOf, declarations, declarationOf, acts, actOf, readOf}
-use Rattle.kept.specs.Kept.{rowOf, Right, Kept, Laid}
+use Rattle.kept.specs.Rows.{Fields, fieldsIn, itemOf, states, stateOf, nameOf, literals, literalOf, acts, actOf, readOf}
+use Rattle.kept.specs.Kept.{rowOf, Right, Kept, Filled, Laid}
 
 -- row k as it is lent, from its start up to its end
 abbrev pub lentOf : List ℕ → ℕ → List ℕ
@@ -31,10 +31,6 @@ state-last n h = List·getD-eq-default (states _) Q.Finish h
 pub literal-last : (kind at flag start end : ℕ) → 2 ≤ kind → literalOf kind at flag start end ≡ L.Named (nameOf start end)
 unfolding literalOf
 literal-last kind at flag start end h = List·getD-eq-default (literals at flag start end) _ h
-
-pub declaration-last : (kind : ℕ) (f : Fields) → 8 ≤ kind → declarationOf kind f ≡ I.TaskEnd (nameOf (f .one) (f .two))
-unfolding declarationOf
-declaration-last kind f h = List·getD-eq-default (declarations f) _ h
 
 pub act-last : (kind : ℕ) (f : Fields) → 11 ≤ kind → actOf kind f ≡ I.No (f .three % 256) (f .four)
 unfolding actOf
@@ -65,72 +61,6 @@ run-before : (new memo : List ℕ) (at j n : ℕ) → j + n ≤ at → take n (d
 run-before [] memo at j n h = refl
 run-before (a ∷ new) memo at j n h = run-before new (set memo at a) (suc at) j n (omega arith) ∙ set-before memo at j n a h
 
--- ---- one row more
-
-module _ (memo new : List ℕ) (many : ℕ) (long : length new ≡ 16) (h : many * 16 + 32 ≤ length memo) where
-  -- the array with a row behind the first ones, and their number
-  abbrev more : List ℕ
-  more = set (sets memo (many * 16 + 16) new) 0 (many + 1)
-
-  more-count : getD more 0 0 ≡ many + 1
-  more-count = getD-set-same (sets memo (many * 16 + 16) new) 0 (many + 1) 0 (omega (arith, length-sets memo (many * 16 + 16) new))
-
-  more-last : rowOf more many ≡ new
-  unfolding rowOf
-  more-last =
-      rw (drop-set-lt (many * 16 + 16) (sets memo (many * 16 + 16) new) 0 (many + 1) (omega arith))
-      (ap (λ (n : ℕ). take n (drop (many * 16 + 16) (sets memo (many * 16 + 16) new))) (sym long) ∙ run-new memo new (many * 16 + 16) (omega arith))
-
-  more-first : (k : ℕ) → k < many → rowOf more k ≡ rowOf memo k
-  unfolding rowOf
-  more-first k g =
-      rw (drop-set-lt (k * 16 + 16) (sets memo (many * 16 + 16) new) 0 (many + 1) (omega arith))
-      (run-before new memo (many * 16 + 16) (k * 16 + 16) 16 (omega arith))
-
--- a row that is right is kept behind rows that are kept
-row-keeps : (s memo row : List ℕ) (many : ℕ) (long : length row ≡ 16) → many ≤ getD memo 0 0 → (h : many * 16 + 32 ≤ length memo) → Right s row → Kept s memo → Kept s (more memo row many long h)
-row-keeps s memo row many long m h right kept = record { each = λ k l. by k (ltb k many) refl (rw (more-count memo row many long h) at l) }
-  where
-    by : (k : ℕ) (c : Bool) → ltb k many ≡ c → k < many + 1 → Right s (rowOf (more memo row many long h) k)
-    by k true c l = rw (more-first memo row many long h k (ltb-true k many c)) (kept .each k (omega (arith, m, ltb-true k many c)))
-    by k false c l =
-        let same : k ≡ many = omega (arith, ltb-false k many c) in
-        rw (same, more-last memo row many long h) right
-
--- the same with the row laid in the part that was lent for it
-module _ (memo row : List ℕ) (many : ℕ) (long : length row ≡ 16) (h : many * 16 + 32 ≤ length memo) where
-  lent-is : putMid (many * 16 + 16) (many * 16 + 16 + 16 - (many * 16 + 16)) memo row ≡ sets memo (many * 16 + 16) row
-  lent-is =
-      let first = many * 16 + 16 in
-      let whole-row : first + length row ≡ first + 16 = omega (arith, long) in
-      let put : sets memo first row ≡ take first memo ++ (row ++ drop (first + 16) memo) = sets-eq row memo first (omega (arith, long)) ∙ append-assoc (take first memo) row (drop (first + length row) memo) ∙ ap (λ (n : ℕ). take first memo ++ (row ++ drop n memo)) whole-row in
-      rw (post-is first (first + 16) memo (omega arith)) (sym put)
-
-  abbrev pub lent : List ℕ
-  lent = set (putMid (many * 16 + 16) (many * 16 + 16 + 16 - (many * 16 + 16)) memo row) 0 (many + 1)
-
-  pub lent-count : getD lent 0 0 ≡ many + 1
-  lent-count = rw lent-is (more-count memo row many long h)
-
-  pub lent-length : length lent ≡ length memo
-  lent-length = rw lent-is (simp length-set (length-sets memo (many * 16 + 16) row))
-
-  pub lent-keeps : {s : List ℕ} → many ≤ getD memo 0 0 → Right s row → Kept s memo → Kept s lent
-  lent-keeps {s} m right kept = rw lent-is (row-keeps s memo row many long m h right kept)
-
--- what row k tells, where it was read at this place and in this state
-pub fetched : {s memo : List ℕ} (k : ℕ) {state : State} {at : ℕ} {r : ReadItem} → Kept s memo → k < getD memo 0 0 → r ≡ readOf (lentOf memo k) → stateOf (getD (lentOf memo k) 1 0) ≡ state → getD (lentOf memo k) 2 0 ≡ at
-    → r ≡ itemAt s state at
-unfolding rowOf
-fetched {s} {memo} k {state} kept l e q p =
-    let z : k * 16 + 16 + 16 - (k * 16 + 16) ≡ 16 = omega arith in
-    let right : Right s (lentOf memo k) = rw z (kept .each k l) in
-    e ∙ right ∙ ap (λ (x : State). itemAt s x (getD (lentOf memo k) 2 0)) q ∙ ap (λ (n : ℕ). itemAt s state n) p
-
--- an array without rows keeps the items of every text
-pub none-kept : (s memo : List ℕ) → getD memo 0 0 ≡ 0 → Kept s memo
-none-kept s memo z = record { each = λ k l. absurd (omega (arith, z, l)) }
-
 -- ---- a row as a whole
 
 -- n numbers of a list from a place on
@@ -154,23 +84,117 @@ over new row e = sets-eq new row 0 (omega arith) ∙ rw (drop-of-length-le row {
 pub all-set : (from row : List ℕ) → length from ≡ 16 → length row ≡ 16 → sets row 0 (numbersFrom 0 16 from) ≡ from
 all-set from row e h = ap (λ (l : List ℕ). sets row 0 l) (sym (numbers-from 0 16 from (sym e))) ∙ over from row (h ∙ sym e)
 
+-- ---- one row more
+
+module _ (rows new : List ℕ) (many : ℕ) (long : length new ≡ 16) (h : many * 16 + 16 ≤ length rows) where
+  -- the rows with one behind the first ones
+  abbrev more : List ℕ
+  more = sets rows (many * 16) new
+
+  more-last : take 16 (drop (many * 16) more) ≡ new
+  more-last = ap (λ (n : ℕ). take n (drop (many * 16) more)) (sym long) ∙ run-new rows new (many * 16) (omega (arith, long))
+
+  more-first : (k : ℕ) → k < many → take 16 (drop (k * 16) more) ≡ take 16 (drop (k * 16) rows)
+  more-first k g = run-before new rows (many * 16) (k * 16) 16 (omega arith)
+
+-- a row that is right is kept behind rows that are
+row-fills : (s rows row : List ℕ) (many : ℕ) (long : length row ≡ 16) (h : many * 16 + 16 ≤ length rows) → Right s row → Filled s rows many → Filled s (more rows row many long h) (many + 1)
+row-fills s rows row many long h right filled = record { each = λ k l. by k (ltb k many) refl l }
+  where
+    by : (k : ℕ) (c : Bool) → ltb k many ≡ c → k < many + 1 → Right s (take 16 (drop (k * 16) (more rows row many long h)))
+    by k true c l = rw (more-first rows row many long h k (ltb-true k many c)) (filled .each k (ltb-true k many c))
+    by k false c l =
+        let same : k ≡ many = omega (arith, ltb-false k many c) in
+        rw (same, more-last rows row many long h) right
+
+-- the same with the row laid in the part that was lent for it
+module _ (rows row : List ℕ) (many : ℕ) (long : length row ≡ 16) (h : many * 16 + 16 ≤ length rows) where
+  abbrev pub lent : List ℕ
+  lent = putMid (many * 16) (many * 16 + 16 - many * 16) rows row
+
+  put-is : lent ≡ take (many * 16) rows ++ (row ++ drop (many * 16 + 16) rows)
+  put-is = rw (post-is (many * 16) (many * 16 + 16) rows (omega arith))
+
+  lent-is : lent ≡ sets rows (many * 16) row
+  lent-is =
+      let first = many * 16 in
+      let whole-row : first + length row ≡ first + 16 = omega (arith, long) in
+      let put : sets rows first row ≡ take first rows ++ (row ++ drop (first + 16) rows) = sets-eq row rows first (omega (arith, long)) ∙ append-assoc (take first rows) row (drop (first + length row) rows) ∙ ap (λ (n : ℕ). take first rows ++ (row ++ drop n rows)) whole-row in
+      put-is ∙ sym put
+
+  pub lent-length : length lent ≡ length rows
+  lent-length = rw lent-is (length-sets rows (many * 16) row)
+
+  pub lent-part : take (many * 16 + 16 - many * 16) (drop (many * 16) lent) ≡ row
+  lent-part =
+      let z : many * 16 + 16 - many * 16 ≡ 16 = omega arith in
+      rw (lent-is, z) (more-last rows row many long h)
+
+  pub lent-fills : {s : List ℕ} → Right s row → Filled s rows many → Filled s lent (many + 1)
+  lent-fills {s} right filled = rw lent-is (row-fills s rows row many long h right filled)
+
+  -- the first row is read from the start of the rows
+  pub lent-read : many ≡ 0 → readOf lent ≡ readOf row
+  lent-read z =
+      let start : lent ≡ row ++ drop (many * 16 + 16) rows = put-is ∙ ap (λ (n : ℕ). take (n * 16) rows ++ (row ++ drop (many * 16 + 16) rows)) z in
+      rw (start, whole row long)
+
+-- fewer rows are right too
+pub filled-less : {s rows : List ℕ} {many less : ℕ} → less ≤ many → Filled s rows many → Filled s rows less
+filled-less h filled = record { each = λ k l. filled .each k (omega arith) }
+
+-- the rows behind the first sixteen numbers of an array, and their number in front
+module _ (memo rows : List ℕ) (many : ℕ) (long : length rows ≡ length memo - 16) (h : 16 ≤ length memo) where
+  abbrev behind : List ℕ
+  behind = putMid 16 (length memo - 16) memo rows
+
+  behind-is : behind ≡ take 16 memo ++ rows
+  behind-is = rw (post-is 16 (length memo) memo h, drop-length memo, append-nil rows)
+
+  pub behind-keeps : {s : List ℕ} → Filled s rows many → Kept s (set behind 0 many)
+  unfolding rowOf
+  behind-keeps {s} filled = record { each = λ k l. by k (rw count at l) }
+    where
+      sixteen : length (take 16 memo) ≡ 16
+      sixteen = length-take-le 16 memo h
+
+      count : getD (set behind 0 many) 0 0 ≡ many
+      count = getD-set-same behind 0 many 0 (rw behind-is (omega (arith, length-append (take 16 memo) rows, sixteen)))
+
+      row-is : (k : ℕ) → drop (k * 16 + 16) (set behind 0 many) ≡ drop (k * 16) rows
+      row-is k =
+          let e : k * 16 + 16 ≡ 16 + k * 16 = omega arith in
+          drop-set-lt (k * 16 + 16) behind 0 many (omega arith) ∙ ap (λ (n : ℕ). drop n behind) e ∙ sym (drop-drop (k * 16) 16 behind) ∙ ap (λ (l : List ℕ). drop (k * 16) l) (ap (λ (l : List ℕ). drop 16 l) behind-is ∙ drop-at (take 16 memo) rows 16 sixteen)
+
+      by : (k : ℕ) → k < many → Right s (take 16 (drop (k * 16 + 16) (set behind 0 many)))
+      by k l = rw (row-is k) (filled .each k l)
+
+-- what row k tells, where it was read at this place and in this state
+pub fetched : {s memo : List ℕ} (k : ℕ) {state : State} {at : ℕ} {r : ReadItem} → Kept s memo → k < getD memo 0 0 → r ≡ readOf (lentOf memo k) → stateOf (getD (lentOf memo k) 1 0) ≡ state → getD (lentOf memo k) 2 0 ≡ at
+    → r ≡ itemAt s state at
+unfolding rowOf
+fetched {s} {memo} k {state} kept l e q p =
+    let z : k * 16 + 16 + 16 - (k * 16 + 16) ≡ 16 = omega arith in
+    let right : Right s (lentOf memo k) = rw z (kept .each k l) in
+    e ∙ right ∙ ap (λ (x : State). itemAt s x (getD (lentOf memo k) 2 0)) q ∙ ap (λ (n : ℕ). itemAt s state n) p
+
+-- an array without rows keeps the items of every text
+pub none-kept : (s memo : List ℕ) → getD memo 0 0 ≡ 0 → Kept s memo
+none-kept s memo z = record { each = λ k l. absurd (omega (arith, z, l)) }
+
 -- the numbers of the states and the places beside those of an item
-pub laid-by : {s : List ℕ} {state : State} {at : ℕ} (before : ℕ) (row : List ℕ) (r : ReadItem) (n refused : ℕ) → length row ≡ 16 → r ≡ itemAt s state at → itemOf (fieldsIn row) ≡ r .item → stateOf n ≡ r .state
-    → refused ≡ getD (sets row 1 (before ∷ at ∷ n ∷ r .next ∷ [])) 7 0 % 256
-    → Laid s state before at (sets row 1 (before ∷ at ∷ n ∷ r .next ∷ [])) (getD (sets row 1 (before ∷ at ∷ n ∷ r .next ∷ [])) 0 0) (r .state) n (r .next) refused (getD (sets row 1 (before ∷ at ∷ n ∷ r .next ∷ [])) 8 0)
-laid-by before row r n refused long p i q e =
+pub laid-by : {s : List ℕ} {at : ℕ} {state : State} (before : ℕ) (row : List ℕ) (r : ReadItem) (n : ℕ) → length row ≡ 16 → state ≡ stateOf before → r ≡ itemAt s state at → itemOf (fieldsIn row) ≡ r .item → stateOf n ≡ r .state
+    → Laid s before at (sets row 1 (before ∷ at ∷ n ∷ r .next ∷ [])) (getD (sets row 1 (before ∷ at ∷ n ∷ r .next ∷ [])) 0 0) n (r .next)
+laid-by {s} {at} before row r n long e p i q =
     record {
-      told = rw (whole row long) (rw (i, q) p);
+      told = rw (whole row long) (rw (i, q) p) ∙ ap (λ (x : State). itemAt s x at) e;
       number = rw (whole row long);
       place = rw (whole row long);
       kind = refl;
-      reached = rw (whole row long) (sym q);
       after = rw (whole row long);
       next = rw (whole row long);
-      refusal = e;
-      site = refl;
     }
 
 -- such a row is right
-pub laid-right : {s : List ℕ} {state : State} {before at : ℕ} {row : List ℕ} {sort : ℕ} {behind : State} {beyond ahead refused spot : ℕ} → Laid s state before at row sort behind beyond ahead refused spot → stateOf before ≡ state → Right s row
-laid-right l q = rw (l .number, l .place, q) (l .told)
+pub laid-right : {s : List ℕ} {before at : ℕ} {row : List ℕ} {sort beyond ahead : ℕ} → Laid s before at row sort beyond ahead → Right s row
+laid-right l = rw (l .number, l .place) (l .told)

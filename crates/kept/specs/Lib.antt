@@ -3,3 +3,4 @@ pub mod Kept
 pub mod KeptLaws
 pub mod Kinds
 pub mod States
+pub mod Passes

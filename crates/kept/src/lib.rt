@@ -55,8 +55,7 @@ fn held(memo: &[usize]) -> usize
 fn anew(s: &[u8], number: usize, at: usize, row: &mut [usize; 16])
     ensures { λ _. ⌜ readOf (now (row .exit)) ≡ itemAt (now (s .entry)) (stateOf number) at ⌝ }
 {
-    let state = states::state_of(number);
-    let _turn = storing::read(s, state, number, at, row);
+    let _passed = pass::walk(s, row, number, at, 1);
 }
 
 // The row of the item at a place, in a state by its number: row k where it is of this place and state, or else read anew.

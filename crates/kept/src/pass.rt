@@ -1,13 +1,20 @@
 // The first pass: refusals 2 and 3, and the items kept.
-ghost use Prim.Native.Nat.{_+_, _-_, _/_, _≤_, min};
+ghost use Prim.Native.Nat.{_+_, _-_, _/_, _≤_, _<_, min};
 ghost use lib.ListN.{length, getD};
 ghost use mathlib.Core.Path.{_≡_};
 ghost use Rattle.text.specs.Items.{syntaxOf};
 ghost use Rattle.items.specs.Answers.{answered};
 ghost use Rattle.kept.specs.Kept.{Kept};
+ghost use Rattle.kept.specs.Passes.{Walked, endOf};
+use super::states;
 use super::storing;
 use items::FirstPass;
-use text::State;
+
+// What a pass says: its answer, and how many rows it has laid.
+pub(crate) struct Passed {
+    pub(crate) answer: FirstPass,
+    pub(crate) rows: usize,
+}
 
 // No row.
 fn clear(memo: &mut [usize])
@@ -20,47 +27,60 @@ fn clear(memo: &mut [usize])
 
 // The row behind a row, or the last one that there is room for.
 fn following(many: usize, length: usize) -> usize
-    requires { ⌜ 32 ≤ length ⌝ }
-    ensures { λ r. ⌜ r ≡ min (many + 1) ((length - 32) / 16) ⌝ }
+    requires { ⌜ 16 ≤ length ⌝ }
+    ensures { λ r. ⌜ r ≡ min (many + 1) ((length - 16) / 16) ⌝ }
 {
-    let last = (length - 32) / 16;
+    let last = (length - 16) / 16;
     if last <= many {
         return last;
     }
     many + 1
 }
 
-// All items, each kept in a row of its own, and those beyond the room in the last row.
-fn walk(s: &[u8], memo: &mut [usize]) -> FirstPass
-    requires { ⌜ Kept (now s) (now memo) × (32 ≤ length (now memo)) ⌝ }
-    ensures answer { λ r. ⌜ r ≡ answered (syntaxOf (now (s .entry))) ⌝ }
-    ensures kept { λ _. ⌜ Kept (now (s .entry)) (now (memo .exit)) ⌝ }
+// The answer of a pass that a row ends.
+fn ending(row: &[usize]) -> FirstPass
+    requires { ⌜ length (now row) ≡ 16 ⌝ }
+    ensures { λ r. ⌜ (18 < getD (now (row .entry)) 0 0 → r ≡ endOf (now (row .entry))) ⌝ }
 {
-    let mut many = 0;
-    let mut number = 0;
-    let mut state = State::Begin;
-    let mut at = 0;
-    while at <= s.len() {
-        let first = many * 16 + 16;
-        let end = first + 16;
-        let turn = storing::read(s, state, number, at, &mut memo[first..end]);
-        memo[0] = many + 1;
-        if 19 < turn.kind {
-            return FirstPass::Refused {
-                number: turn.refusal,
-                at: turn.place,
-            };
-        }
-        if turn.kind == 19 {
-            return FirstPass::Fine;
-        }
-        let behind = turn.state;
-        state = behind;
-        number = turn.number;
-        at = turn.next;
-        many = following(many, memo.len());
+    if 19 < row[0] {
+        let number = states::narrow(row[7]);
+        return FirstPass::Refused {
+            number: number,
+            at: row[8],
+        };
     }
     FirstPass::Fine
+}
+
+// The items from a place on, in a state by its number, at most as many as there are turns: each kept in a row of its own, and those beyond the room in the last row.
+pub(crate) fn walk(s: &[u8], rows: &mut [usize], state: usize, place: usize, turns: usize) -> Passed
+    requires { ⌜ 16 ≤ length (now rows) ⌝ }
+    ensures { λ r. ⌜ Walked (now (s .entry)) state place turns (now (rows .exit)) (r .answer) (r .rows) ⌝ }
+{
+    let mut many = 0;
+    let mut number = state;
+    let mut at = place;
+    let mut left = turns;
+    while 0 < left {
+        let first = many * 16;
+        let end = first + 16;
+        let turn = storing::read(s, number, at, &mut rows[first..end]);
+        if 18 < turn.kind {
+            let answer = ending(&rows[first..end]);
+            return Passed {
+                answer: answer,
+                rows: many + 1,
+            };
+        }
+        number = turn.number;
+        at = turn.next;
+        many = following(many, rows.len());
+        left = left - 1;
+    }
+    Passed {
+        answer: FirstPass::Fine,
+        rows: many,
+    }
 }
 
 // The leftmost 2 or 3 of a text; the array keeps its items.
@@ -68,10 +88,17 @@ pub fn syntax(s: &[u8], memo: &mut [usize]) -> FirstPass
     ensures answer { λ r. ⌜ r ≡ answered (syntaxOf (now (s .entry))) ⌝ }
     ensures kept { λ _. ⌜ Kept (now (s .entry)) (now (memo .exit)) ⌝ }
 {
-    clear(memo);
-    if memo.len() < 32 {
-        let mut own = [0usize; 32];
-        return walk(s, &mut own);
+    let room = memo.len();
+    let turns = s.len() + 1;
+    if room < 32 {
+        clear(memo);
+        let mut own = [0usize; 16];
+        let passed = walk(s, &mut own, 0, 0, turns);
+        let answer = passed.answer;
+        return answer;
     }
-    walk(s, memo)
+    let passed = walk(s, &mut memo[16..room], 0, 0, turns);
+    memo[0] = passed.rows;
+    let answer = passed.answer;
+    answer
 }

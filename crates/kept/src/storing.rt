@@ -10,7 +10,6 @@ use text::Item;
 use text::Literal;
 use text::Name;
 use text::Port;
-use text::State;
 
 // A value in five numbers: which kind, its place, its flag, and where its name or its digits start and end.
 pub(crate) struct Value {
@@ -21,14 +20,11 @@ pub(crate) struct Value {
     pub(crate) end: usize,
 }
 
-// What a pass goes on by: the kind of an item, the state behind it and its number, the next place, and the number and the place of a refusal.
+// What a pass goes on by: the kind of an item, the number of the state behind it, and the next place.
 pub(crate) struct Turn {
     pub(crate) kind: usize,
-    pub(crate) state: State,
     pub(crate) number: usize,
     pub(crate) next: usize,
-    pub(crate) refusal: u8,
-    pub(crate) place: usize,
 }
 
 fn bit(yes: bool) -> usize
@@ -267,11 +263,12 @@ fn lay(row: &mut [usize], item: Item)
     }
 }
 
-// The row of the item at a place, in a state that stands beside its number; and what a pass goes on by.
-pub(crate) fn read(s: &[u8], state: State, before: usize, at: usize, row: &mut [usize]) -> Turn
+// The row of the item at a place, in a state by its number; and what a pass goes on by.
+pub(crate) fn read(s: &[u8], before: usize, at: usize, row: &mut [usize]) -> Turn
     requires { ⌜ length (now row) ≡ 16 ⌝ }
-    ensures { λ r. ⌜ Laid (now (s .entry)) state before at (now (row .exit)) (r .kind) (r .state) (r .number) (r .next) (r .refusal) (r .place) ⌝ }
+    ensures { λ r. ⌜ Laid (now (s .entry)) before at (now (row .exit)) (r .kind) (r .number) (r .next) ⌝ }
 {
+    let state = states::state_of(before);
     let read = items::item(s, state, at);
     let found = read.item;
     lay(row, found);
@@ -282,13 +279,9 @@ pub(crate) fn read(s: &[u8], state: State, before: usize, at: usize, row: &mut [
     row[2] = at;
     row[3] = behind;
     row[4] = next;
-    let refusal = states::narrow(row[7]);
     Turn {
         kind: row[0],
-        state: ahead,
         number: behind,
         next: next,
-        refusal: refusal,
-        place: row[8],
     }
 }

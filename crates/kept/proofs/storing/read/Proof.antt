@@ -6,6 +6,9 @@ use borrow.Author.Needs.{needs}
 use Rattle.kept.proofs.storing.read.Statement.{statement}
 use Rattle.kept.proofs.storing.read.Tie as tie
 
+state-of-requires : tie.Need-state-of-requires
+state-of-requires c κs = search needs
+
 item-requires : tie.Need-item-requires
 item-requires c κs = search needs
 
@@ -27,31 +30,23 @@ slice-write-row-3 c = simp length-set (omega arith)
 slice-write-row-4 : tie.Need-slice-write-row-4
 slice-write-row-4 c = simp length-set (omega arith)
 
-slice-read-narrow : tie.Need-slice-read-narrow
-slice-read-narrow c = simp length-set (omega arith)
-
-narrow-requires : tie.Need-narrow-requires
-narrow-requires c κs = search needs
-
-slice-read-t20 : tie.Need-slice-read-t20
-slice-read-t20 c = simp length-set (omega arith)
-
-slice-read-t23 : tie.Need-slice-read-t23
-slice-read-t23 c = simp length-set (omega arith)
+slice-read-t19 : tie.Need-slice-read-t19
+slice-read-t19 c = simp length-set (omega arith)
 
 same-length : tie.Need-same-length
 same-length c = search needs
 
 returns : tie.Need-returns
 returns c =
-    let row = c .before .before .before .before .before .before .before .lay .last .0 in
-    let long : length row ≡ 16 = omega (arith, c .before .before .before .before .before .before .row .given, c .before .before .before .before .before .before .before .before .before .before .before .before .pre) in
-    laid-by (c .before .before .before .before .before .before .before .before .before .before .before .before .args .before) row (c .before .before .before .before .before .before .before .before .before .item .result) (c .before .before .before .before .number-of .result) (c .before .before .narrow .result) long (c .before .before .before .before .before .before .before .before .before .item .ensures) (c .before .before .before .before .before .before .before .lay .ensures) (c .before .before .before .before .number-of .ensures) (c .before .before .narrow .ensures)
+    let row = c .before .before .before .before .lay .last .0 in
+    let long : length row ≡ 16 = omega (arith, c .before .before .before .row .given, c .before .before .before .before .before .before .before .before .before .before .pre) in
+    laid-by (c .before .before .before .before .before .before .before .before .before .before .args .before) row (c .before .before .before .before .before .before .item .result) (c .before .number-of .result) long (c .before .before .before .before .before .before .before .state-of .ensures) (c .before .before .before .before .before .before .item .ensures) (c .before .before .before .before .lay .ensures) (c .before .number-of .ensures)
 
 pub read-spec : {M : Type 1} → statement M
 read-spec =
     tie.close
     (tie.spec
+    state-of-requires
     item-requires
     lay-requires
     number-of-requires
@@ -59,9 +54,6 @@ read-spec =
     slice-write-row-2
     slice-write-row-3
     slice-write-row-4
-    slice-read-narrow
-    narrow-requires
-    slice-read-t20
-    slice-read-t23
+    slice-read-t19
     same-length
     returns)
