@@ -4,3 +4,4 @@ pub mod KeptLaws
 pub mod Kinds
 pub mod States
 pub mod Passes
+pub mod Skips

@@ -20,6 +20,7 @@ pub struct Seen {
 mod fetching;
 mod pass;
 mod rows;
+mod skipping;
 mod states;
 mod storing;
 
@@ -33,6 +34,8 @@ pub use rows::second_port;
 pub use rows::second_value;
 pub use rows::section;
 pub use rows::third_name;
+pub use skipping::Stop;
+pub use skipping::to_mode;
 pub use states::number_of;
 pub use states::state_of;
 

@@ -15,7 +15,7 @@ use Rattle.text.specs.declared.Item.{Item}
 use Rattle.text.specs.declared.Item.the-variants as I
 use Rattle.text.specs.declared.ReadItem.{ReadItem}
 use Rattle.text.specs.Items.{itemAt, goes, onto, itemsIn, itemsFrom, refusedOr}
-use Rattle.text.specs.ItemsLaws.{from-on, from-stop}
+use Rattle.text.specs.ItemsLaws.{from-on, from-stop, turn-ahead}
 use Rattle.text.specs.Advance.{item-ahead}
 use Rattle.text.specs.PartsLaws.{unsaid}
 use Rattle.model.specs.Bytes.{same}
@@ -25,8 +25,9 @@ use Rattle.refusals.specs.NamesLaws.{Sorted, find-first, find-new, rows-sorted}
 use Rattle.refusals.specs.Declarations.{modesIn, declares, rowsAfter}
 use Rattle.refusals.specs.Activities.{modeNamed}
 use Rattle.accepted.specs.Steps.{Comes, module-begins, module-section, constant, sensor, actuator, task-begins, task-section, input, output, task-ends, mode-begins, mode-section, activity, guard-alone, guard, guard-arg, guard-last, invoke-alone, invoke, arg, arg-last, update, switch, mode-ends, module-ends, text-ends, item-comes}
-use Rattle.kept.specs.Rows.{stateOf, fieldsIn, itemOf}
-use Rattle.kept.specs.Kinds.{each-kind}
+use Rattle.kept.specs.Rows.{stateOf, fieldsIn, itemOf, readOf}
+use Rattle.kept.specs.Kinds.{each-kind, kind-goes}
+use Rattle.kept.specs.Skips.{Skipped, here, over}
 use Rattle.targets.specs.Ahead.{begins, modeAhead, isTarget}
 
 -- ---- a turn of the search: r is what was read
@@ -62,6 +63,16 @@ kind-quiet s word row =
 pub ahead-end : (s word : List ℕ) (state : State) (at : ℕ) → length s < at → modeAhead s word (itemsFrom s state at) ≡ false
 unfolding modeAhead itemsIn
 ahead-end s word state at h = let z : length s + 1 - at ≡ 0 = omega arith in rw z
+
+-- items passed over on the way to the next mode begin none
+pub quiet-same : (s word : List ℕ) {state at beyond ahead : ℕ} → at ≤ length s → Skipped s state at beyond ahead
+    → (ahead ≤ length s) × (at ≤ ahead) × (modeAhead s word (itemsFrom s (stateOf state) at) ≡ modeAhead s word (itemsFrom s (stateOf beyond) ahead))
+quiet-same s word h here = (h, omega arith, refl)
+quiet-same s word h (over before row told other follows) =
+    let w = quiet-same s word h before in
+    let going = kind-goes row follows in
+    let further = turn-ahead s _ _ (readOf row) (w .0) told going in
+    (further .1, omega (arith, w .1, further .0), w .2 ∙ ahead-on s word _ _ (readOf row) (w .0) told going (kind-quiet s word row other))
 
 -- ---- an item that goes on is no refusal
 

@@ -41,7 +41,8 @@ fn ahead<'a>(
     let mut behind = kept::number_of(state);
     let mut place = at;
     while place <= s.len() {
-        let seen = kept::look(s, memo, number, behind, place);
+        let stop = kept::to_mode(memo, number, behind, place);
+        let seen = kept::look(s, memo, stop.item, stop.state, stop.at);
         if begins(s, seen.kind, seen.start, seen.end, sought) {
             return true;
         }
@@ -52,7 +53,7 @@ fn ahead<'a>(
         if next <= place {
             return false;
         }
-        number = std::num::wrapping_add_usize(number, 1);
+        number = std::num::wrapping_add_usize(stop.item, 1);
         behind = seen.behind;
         place = next;
     }
