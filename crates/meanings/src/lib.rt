@@ -91,7 +91,7 @@ pub fn port_named(s: &[u8], cells: &[usize], n: usize, port: Port) -> Row
     ensures { λ r. ⌜ (Indexed (now (s .entry)) (now (cells .entry)) → r ≡ portNamed (now (s .entry)) (rowsIn (now (cells .entry)) n) port) ⌝ }
 {
     let first = port.first;
-    let row = names::find(s, cells, n, Scope::Numbered(0), first.start, first.end);
+    let row = names::found(s, cells, n, 0, first.start, first.end);
     if port.dotted {
         if row.sort != 3 {
             return names::unknown();
@@ -120,7 +120,7 @@ pub fn port_named(s: &[u8], cells: &[usize], n: usize, port: Port) -> Row
 pub fn plain_argument(s: &[u8], cells: &[usize], n: usize, name: Name) -> Row
     ensures { λ r. ⌜ (Indexed (now (s .entry)) (now (cells .entry)) → r ≡ argumentNamed (now (s .entry)) (rowsIn (now (cells .entry)) n) (plainPort name)) ⌝ }
 {
-    let row = names::find(s, cells, n, Scope::Numbered(0), name.start, name.end);
+    let row = names::found(s, cells, n, 0, name.start, name.end);
     if row.sort < 2 {
         return row;
     }

@@ -1,5 +1,5 @@
 -- The key of a name, from the letters where it stands in the text, and what it tells.
-use Prim.Native.Nat.{ℕ, _+_, _-_, _*_, _/_, _%_, _≤_, _<_, min}
+use Prim.Native.Nat.{ℕ, _+_, _-_, _*_, _/_, _%_, _^_, _≤_, _<_, min}
 use native.Mathlib.Omega.{arith}
 use native.Mathlib.Nat.{add-zero}
 use mathlib.Core.Path.{_≡_, refl, sym, _∙_}
@@ -22,9 +22,21 @@ pub chain-small : (scope : ℕ) (word : List ℕ) → chainOf scope word < 128
 unfolding chainOf
 chain-small scope word = omega arith
 
-pub chain-by : (scope : ℕ) (word : List ℕ) (key : ℕ) → key ≡ keyOf word → mixed (scope % 256) key ≡ chainOf scope word
+pub chain-by : (scope : ℕ) (word : List ℕ) (key : ℕ) → key ≡ keyOf word → mixed scope key ≡ chainOf scope word
 unfolding chainOf
 chain-by scope word key e = rw e
+
+-- a sum in 64 bits is as good as the whole
+halved : (a r : ℕ) → r ≡ a % 2 ^ 64 → r % 4294967296 ≡ a % 4294967296
+halved a r e = omega (arith, e)
+
+joined : (a b c : ℕ) → a % 4294967296 ≡ b % 4294967296 → (a + c) % 4294967296 ≡ (b + c) % 4294967296
+joined a b c e = omega (arith, e)
+
+pub mixed-wraps : (scope key sum all : ℕ) → sum ≡ (key / 274877906944 + key) % 2 ^ 64 → all ≡ (sum + scope) % 2 ^ 64 → all % 4294967296 * 458679423 / 33554432 % 128 ≡ mixed scope key
+mixed-wraps scope key sum all e f =
+    let z = halved (sum + scope) all f ∙ joined sum (key / 274877906944 + key) scope (halved (key / 274877906944 + key) sum e) in
+    rw z
 
 -- names with the same key are of the same chain
 pub chain-same : (scope : ℕ) (word other : List ℕ) → keyOf word ≡ keyOf other → chainOf scope word ≡ chainOf scope other

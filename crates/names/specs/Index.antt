@@ -34,11 +34,11 @@ keyOf word =
 
 -- one of 128 chains, by a scope and a key
 abbrev pub mixed : ℕ → ℕ → ℕ
-mixed scope key = (key / 4294967296 * 3 + key % 4294967296 + scope * 101) * 260644314 / 268435456 % 128
+mixed scope key = (key / 274877906944 + key + scope) % 4294967296 * 458679423 / 33554432 % 128
 
 -- the chain of a name in a scope
 unfoldable pub chainOf : ℕ → List ℕ → ℕ
-chainOf scope word = mixed (scope % 256) (keyOf word)
+chainOf scope word = mixed scope (keyOf word)
 
 -- the key and the chain of a row
 abbrev pub keyBy : List ℕ → Row → ℕ

@@ -22,6 +22,12 @@ module _ (s : List ℕ) (i e n : ℕ) (h : n ≡ length (slice i e s)) (some : n
   pub part-whole : slice i (i + n) s ≡ slice i e s
   part-whole = rw stop (sym (slice-clamp i e s))
 
+-- a part that begins before it stops
+pub part-stopped : (s : List ℕ) (i e stop : ℕ) → stop ≡ min e (length s) → i < stop → slice i (i + (stop - i)) s ≡ slice i e s
+part-stopped s i e stop h g =
+    let z : i + (stop - i) ≡ min e (length s) = omega arith in
+    rw z (sym (slice-clamp i e s))
+
 -- a part of n letters that ends where the text or the part ends
 pub part-back : (s : List ℕ) (i e stop n : ℕ) → stop ≡ min e (length s) → n ≤ stop → stop - n ≡ i → slice i e s ≡ slice i (i + n) s
 part-back s i e stop n h g l =

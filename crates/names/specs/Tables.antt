@@ -1,7 +1,7 @@
 -- The table of declared names as an array of numbers: its index, and behind that eight numbers to a row, one row behind the other.
 use Prim.Native.Nat.{ℕ, zero, suc, _+_, _-_, _*_, _/_}
 use mathlib.Core.List.{List, [], _∷_}
-use mathlib.Core.Bool.{Bool}
+use mathlib.Core.Bool.{Bool, true}
 use lib.Dec.{ltb}
 use lib.ListN.{length, getD}
 use Rattle.refusals.specs.declared.Row.{Row}
@@ -44,6 +44,11 @@ hasRoom cells n = ltb n (roomIn cells)
 abbrev pub scopeOf : Scope → ℕ
 scopeOf (Numbered number) = number
 scopeOf (OfTask task) = taskScope task
+
+-- whether that is a number that a row can have
+abbrev pub fitting : Scope → Bool
+fitting (Numbered number) = true
+fitting (OfTask task) = ltb task 18446744073709551615
 
 -- which rows are counted
 abbrev pub isOf : Sought → Row → Bool

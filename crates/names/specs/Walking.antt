@@ -1,16 +1,19 @@
 -- A name is found by going through the rows of its chain, from the first on.
-use Prim.Native.Nat.{ℕ, zero, suc, _+_, _-_, _≤_, _<_}
+use Prim.Native.Nat.{ℕ, zero, suc, _+_, _-_, _*_, _%_, _^_, _≤_, _<_}
 use native.Mathlib.Omega.{arith}
 use mathlib.Core.Path.{_≡_, refl, sym, ap, _∙_}
 use mathlib.Core.List.{List, [], _∷_, _++_}
 use mathlib.Core.Bool.{Bool, true, false, cond}
-use borrow.Author.Tests.{eqb-true, eqb-false, eq-eqb, ltb-true, ltb-false}
+use borrow.Author.Tests.{eqb-true, eqb-false, eq-eqb, ne-eqb, ltb-true, ltb-false}
 use lib.Dec.{eqb, ltb}
+use lib.ListN.{getD}
 use Rattle.model.specs.Bytes.{same}
 use Rattle.text.specs.WordsLaws.{same→eq}
 use Rattle.refusals.specs.declared.Row.{Row}
 use Rattle.refusals.specs.Names.{unknown, isRow, find}
-use Rattle.names.specs.Tables.{rowAt, rowsFrom, rowsIn}
+use Rattle.names.specs.declared.Scope.{Scope}
+use Rattle.names.specs.declared.Scope.the-variants.{Numbered, OfTask}
+use Rattle.names.specs.Tables.{rowAt, rowsFrom, rowsIn, scopeOf, fitting}
 use Rattle.names.specs.TablesLaws.{rows-last}
 use Rattle.names.specs.Chains.{nextOf, lowest, next-some, next-out, lowest-hit, lowest-miss, lowest-none, lowest-same, lowest-holds, lowest-empty, lowest-first}
 use Rattle.names.specs.Index.{keyOf, chainOf, keyBy, wordAt, chainAt, indexed, headIn, linkAt, keyAt, markedBy, Indexed}
@@ -56,9 +59,27 @@ module _ (s : List ℕ) (scope : ℕ) (word : List ℕ) where
       by on true e = on (suc n) ∙ rw (lowest-hit (hasName cells) n found e)
       by on false e = on found ∙ rw (lowest-miss (hasName cells) n found e)
 
-  -- the first of the first n rows that has the name
+  -- the first of the first n rows that has the name, one more than its place; 0 where there is none
+  abbrev pub namedFirst : List ℕ → ℕ → ℕ
+  namedFirst cells n = lowest (hasName cells) n 0
+
   pub find-lowest : (cells : List ℕ) (n : ℕ) → find s (rowsIn cells n) scope word ≡ foundAt cells (lowest (hasName cells) n 0)
   find-lowest cells n = found-find (rowsIn cells n) ∙ found-lowest cells n 0
+
+  -- what the name means, by that row
+  pub named-none : (cells : List ℕ) (n place : ℕ) → place ≡ 0 → place ≡ namedFirst cells n → unknown ≡ find s (rowsIn cells n) scope word
+  named-none cells n place z e = let none : namedFirst cells n ≡ 0 = sym e ∙ z in sym (find-lowest cells n ∙ rw none)
+
+  pub named-some : (cells : List ℕ) (n place : ℕ) → (place ≡ 0 → ⊥) → place ≡ namedFirst cells n → rowAt cells (place - 1) ≡ find s (rowsIn cells n) scope word
+  named-some cells n place z e = let is : namedFirst cells n ≡ place = sym e in found-some cells place z ∙ sym (find-lowest cells n ∙ rw is)
+
+  -- no row is of a scope whose number does not fit
+  pub scope-beyond : (cells : List ℕ) (n : ℕ) → ((i : ℕ) → getD cells i 0 < 18446744073709551616) → 18446744073709551616 ≤ scope → unknown ≡ find s (rowsIn cells n) scope word
+  unfolding rowAt
+  scope-beyond cells n fit h = named-none cells n 0 refl (sym (lowest-empty (hasName cells) n 0 (λ j g. other j)))
+    where
+      other : (j : ℕ) → hasName cells j ≡ false
+      other j = simp (ne-eqb (getD cells (j * 8 + 512 + 2) 0) scope (λ z. omega (arith, z, h, fit (j * 8 + 512 + 2))))
 
   -- whether the row at a place is of the name's scope and has its key
   abbrev pub marked : List ℕ → ℕ → Bool
@@ -91,10 +112,8 @@ module _ (s : List ℕ) (scope : ℕ) (word : List ℕ) where
 
   -- what the name means, by the first such row: nothing where there is none, that row where it has the name
   module _ (cells : List ℕ) (n found : ℕ) (e : found ≡ markedFirst cells n) where
-    pub marked-none : found ≡ 0 → unknown ≡ find s (rowsIn cells n) scope word
-    marked-none z =
-        let none = lowest-none (hasName cells) (marked cells) (named-marked cells) n 0 (sym e ∙ z) .1 in
-        sym (find-lowest cells n ∙ rw none)
+    pub marked-none : found ≡ 0 → 0 ≡ namedFirst cells n
+    marked-none z = sym (lowest-none (hasName cells) (marked cells) (named-marked cells) n 0 (sym e ∙ z) .1)
 
     marked-scope : (k : ℕ) → marked cells k ≡ true → eqb (rowAt cells k .scope) scope ≡ true
     marked-scope k h = by (eqb (keyBy s (rowAt cells k)) (keyOf word)) refl
@@ -116,11 +135,10 @@ module _ (s : List ℕ) (scope : ℕ) (word : List ℕ) where
     pub found-key : (found ≡ 0 → ⊥) → keyOf (wordAt s cells (found - 1)) ≡ keyOf word
     found-key z = marked-key (found - 1) (is-marked z)
 
-    pub marked-some : (found ≡ 0 → ⊥) → same (wordAt s cells (found - 1)) word ≡ true → rowAt cells (found - 1) ≡ find s (rowsIn cells n) scope word
+    pub marked-some : (found ≡ 0 → ⊥) → same (wordAt s cells (found - 1)) word ≡ true → found ≡ namedFirst cells n
     marked-some z w =
         let named : hasName cells (found - 1) ≡ true = rw (marked-scope (found - 1) (is-marked z)) w in
-        let is = lowest-same (hasName cells) (marked cells) (named-marked cells) n 0 0 found (sym e) named (λ q. refl) in
-        found-some cells found z ∙ sym (find-lowest cells n ∙ rw is)
+        sym (lowest-same (hasName cells) (marked cells) (named-marked cells) n 0 0 found (sym e) named (λ q. refl))
 
   -- a walk through the chain of a name: where it stands, one more than its place, with no such row before it
   pub record Walking (cells : List ℕ) (link : ℕ) : Type 0 where
@@ -196,3 +214,23 @@ module _ (s : List ℕ) (scope : ℕ) (word : List ℕ) where
       -- a row that is not among the first n
       pub walk-passes : (n : ℕ) → n < link → 0 ≡ markedFirst cells n
       walk-passes n g = sym (lowest-empty (marked cells) n 0 (λ j i. w .none j (omega arith)))
+
+-- a number that no row can have
+beyond : (scope : Scope) → fitting scope ≡ false → 18446744073709551616 ≤ scopeOf scope
+beyond (Numbered number) e = let q : _≡_ {A = ℕ} 0 1 = cc in absurd (omega arith)
+beyond (OfTask task) e = omega (arith, ltb-false task 18446744073709551615 e)
+
+pub task-number : (task number : ℕ) → number ≡ (task + 1) % 2 ^ 64 → fitting (OfTask task) ≡ true → number ≡ scopeOf (OfTask task)
+task-number task number e h = omega (arith, e, ltb-true task 18446744073709551615 h)
+
+-- the rows that may be of a scope, and its number where it fits, tell what a name means in it
+pub scope-told : (s word cells : List ℕ) (n rows number : ℕ) (scope : Scope) → ((i : ℕ) → getD cells i 0 < 18446744073709551616) → rows ≡ cond (fitting scope) n 0 → (fitting scope ≡ true → number ≡ scopeOf scope) → find s (rowsIn cells rows) number word ≡ find s (rowsIn cells n) (scopeOf scope) word
+unfolding find rowsFrom
+scope-told s word cells n rows number scope fit among is = by (fitting scope) refl
+  where
+    empty : find s (rowsIn cells 0) number word ≡ unknown
+    empty = refl
+
+    by : (b : Bool) → fitting scope ≡ b → find s (rowsIn cells rows) number word ≡ find s (rowsIn cells n) (scopeOf scope) word
+    by true p = let all : rows ≡ n = among ∙ rw p in rw (all, is p)
+    by false p = let none : rows ≡ 0 = among ∙ rw p in rw none (empty ∙ scope-beyond s (scopeOf scope) word cells n fit (beyond scope p))

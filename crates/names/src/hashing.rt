@@ -3,9 +3,7 @@ ghost use mathlib.Core.Path.{_≡_};
 ghost use Prim.Native.Nat.{_+_, _-_, _*_, _/_, _%_, _≤_, _<_};
 ghost use lib.ListN.{length, getD};
 ghost use lib.Seq.{slice};
-ghost use Rattle.names.specs.Tables.{scopeOf};
 ghost use Rattle.names.specs.Index.{quad, keyOf, mixed};
-use super::Scope;
 
 fn wide(letter: u8) -> usize
     ensures { λ r. ⌜ (r ≡ letter) × (r < 256) ⌝ }
@@ -65,20 +63,11 @@ pub fn key_in(s: &[u8], start: usize, end: usize) -> usize
     key_of(s, start, n)
 }
 
-// A scope's number, as far as the chain depends on it.
-fn part_of(scope: Scope) -> usize
-    ensures { λ r. ⌜ (r ≡ scopeOf scope % 256) × (r < 256) ⌝ }
-{
-    match scope {
-        Scope::Numbered(number) => number % 256,
-        Scope::OfTask(task) => (task % 256 + 1) % 256,
-    }
-}
-
 // The chain in a scope of the names with a key.
-pub fn chain_of(scope: Scope, key: usize) -> usize
-    ensures { λ r. ⌜ (r ≡ mixed (scopeOf scope % 256) key) × (r < 128) ⌝ }
+pub fn chain_of(scope: usize, key: usize) -> usize
+    ensures { λ r. ⌜ (r ≡ mixed scope key) × (r < 128) ⌝ }
 {
-    let part = part_of(scope);
-    (key / 4294967296 * 3 + key % 4294967296 + part * 101) * 260644314 / 268435456 % 128
+    let sum = std::num::wrapping_add_usize(key / 274877906944, key);
+    let all = std::num::wrapping_add_usize(sum, scope);
+    all % 4294967296 * 458679423 / 33554432 % 128
 }

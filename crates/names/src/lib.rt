@@ -3,16 +3,16 @@
 // Builds on the laws of parts of a text, and on what a row is in the rules.
 ghost use mathlib.Core.Path.{_≡_};
 ghost use mathlib.Core.List.{List};
-ghost use mathlib.Core.Bool.{true};
+ghost use mathlib.Core.Bool.{true, cond};
 ghost use Prim.Native.Nat.{ℕ, _+_, _≤_, _<_, min};
 ghost use lib.Dec.{eqb};
 ghost use lib.ListN.{length, getD};
 ghost use lib.Seq.{slice};
 ghost use Rattle.model.specs.Bytes.{same};
 ghost use Rattle.refusals.specs.Names.{unknown as unknownRow, isRow, find as findRow, noType, count as countOf, types};
-ghost use Rattle.names.specs.Tables.{rowAt, rowsIn, roomIn, scopeOf, isOf};
+ghost use Rattle.names.specs.Tables.{rowAt, rowsIn, roomIn, scopeOf, fitting, isOf};
 ghost use Rattle.names.specs.Index.{keyOf, wordAt, chainOf, indexed, headIn, markedBy, Indexed, Declared};
-ghost use Rattle.names.specs.Walking.{markedFirst};
+ghost use Rattle.names.specs.Walking.{markedFirst, namedFirst};
 use refusals::Row;
 
 mod counting;
@@ -186,18 +186,18 @@ fn is_in(number: usize, scope: Scope) -> bool
 }
 
 // Whether a row is of this scope and has the name that stands from start up to end.
-fn is_row(s: &[u8], row: Row, scope: Scope, start: usize, end: usize) -> bool
-    ensures { λ r. ⌜ r ≡ isRow (now (s .entry)) (scopeOf scope) (slice start end (now (s .entry))) row ⌝ }
+fn is_row(s: &[u8], row: Row, scope: usize, start: usize, end: usize) -> bool
+    ensures { λ r. ⌜ r ≡ isRow (now (s .entry)) scope (slice start end (now (s .entry))) row ⌝ }
 {
-    if is_in(row.scope, scope) {
+    if row.scope == scope {
         return same_parts(s, row.start, row.end, start, end);
     }
     false
 }
 
 // What the name means, where all rows are gone through.
-fn searched(s: &[u8], cells: &[usize], n: usize, scope: Scope, start: usize, end: usize) -> Row
-    ensures { λ r. ⌜ r ≡ findRow (now (s .entry)) (rowsIn (now (cells .entry)) n) (scopeOf scope) (slice start end (now (s .entry))) ⌝ }
+fn searched(s: &[u8], cells: &[usize], n: usize, scope: usize, start: usize, end: usize) -> Row
+    ensures { λ r. ⌜ r ≡ findRow (now (s .entry)) (rowsIn (now (cells .entry)) n) scope (slice start end (now (s .entry))) ⌝ }
 {
     let mut k = 0;
     while k < n {
@@ -211,21 +211,21 @@ fn searched(s: &[u8], cells: &[usize], n: usize, scope: Scope, start: usize, end
 }
 
 // Whether the row at a place is of this scope and has this key.
-fn is_marked(cells: &[usize], k: usize, scope: Scope, key: usize) -> bool
+fn is_marked(cells: &[usize], k: usize, scope: usize, key: usize) -> bool
     requires { ⌜ k < roomIn (now cells) ⌝ }
-    ensures { λ r. ⌜ r ≡ markedBy (now (cells .entry)) k (scopeOf scope) key ⌝ }
+    ensures { λ r. ⌜ r ≡ markedBy (now (cells .entry)) k scope key ⌝ }
 {
     let first = k * 8 + 512;
     if cells[first + 7] == key {
-        return is_in(cells[first + 2], scope);
+        return cells[first + 2] == scope;
     }
     false
 }
 
 // The first row of its chain, from head on and among the first n, that is of this scope and has this key, one more than its place; 0 where there is none.
-fn chained(cells: &[usize], n: usize, scope: Scope, key: usize, head: usize) -> usize
+fn chained(cells: &[usize], n: usize, scope: usize, key: usize, head: usize) -> usize
     requires { ⌜ (3904 ≤ length (now cells)) × (n ≤ 424) × (0 < head) ⌝ }
-    ensures { λ r. ⌜ (r ≤ 424) × ((s : List ℕ) (word : List ℕ) → Indexed s (now (cells .entry)) → n ≤ indexed (now (cells .entry)) → key ≡ keyOf word → head ≡ headIn (now (cells .entry)) (chainOf (scopeOf scope) word) → r ≡ markedFirst s (scopeOf scope) word (now (cells .entry)) n) ⌝ }
+    ensures { λ r. ⌜ (r ≤ 424) × ((s : List ℕ) (word : List ℕ) → Indexed s (now (cells .entry)) → n ≤ indexed (now (cells .entry)) → key ≡ keyOf word → head ≡ headIn (now (cells .entry)) (chainOf scope word) → r ≡ markedFirst s scope word (now (cells .entry)) n) ⌝ }
 {
     let mut link = head;
     while link <= n {
@@ -259,33 +259,86 @@ fn is_named(s: &[u8], cells: &[usize], k: usize, start: usize, n: usize) -> bool
     same_letters(s, stop - n, start, n)
 }
 
-// What the name that stands from start up to end means in a scope, among the first n rows.
-pub fn find(s: &[u8], cells: &[usize], n: usize, scope: Scope, start: usize, end: usize) -> Row
-    ensures { λ r. ⌜ (Indexed (now (s .entry)) (now (cells .entry)) → r ≡ findRow (now (s .entry)) (rowsIn (now (cells .entry)) n) (scopeOf scope) (slice start end (now (s .entry)))) ⌝ }
+// The first of the first n rows that is of a scope and has the name that stands from start up to end, one more than its place, and 0 where there is none; 425 where the index does not tell.
+fn place(s: &[u8], cells: &[usize], n: usize, scope: usize, start: usize, end: usize) -> usize
+    ensures { λ r. ⌜ (0 < r → r < 425 → r ≤ roomIn (now (cells .entry))) × (Indexed (now (s .entry)) (now (cells .entry)) → r < 425 → r ≡ namedFirst (now (s .entry)) scope (slice start end (now (s .entry))) (now (cells .entry)) n) ⌝ }
 {
     if 3904 <= cells.len() {
-        if n <= cells[0] {
-            let letters = size(s, start, end);
-            if 0 < letters {
-                let key = hashing::key_of(s, start, letters);
-                let chain = hashing::chain_of(scope, key);
-                let head = cells[chain + 256];
-                if head == 0 {
-                    return unknown();
-                }
-                if n <= 424 {
+        if n <= 424 {
+            if n <= cells[0] {
+                let stop = least(end, s.len());
+                if start < stop {
+                    let letters = stop - start;
+                    let key = hashing::key_of(s, start, letters);
+                    let chain = hashing::chain_of(scope, key);
+                    let head = cells[chain + 256];
+                    if head == 0 {
+                        return 0;
+                    }
                     let found = chained(cells, n, scope, key, head);
                     if found == 0 {
-                        return unknown();
+                        return 0;
                     }
                     if is_named(s, cells, found - 1, start, letters) {
-                        return whole(cells, found - 1);
+                        return found;
                     }
                 }
             }
         }
     }
+    425
+}
+
+// What the name that stands from start up to end means in the scope of a number, among the first n rows.
+pub fn found(s: &[u8], cells: &[usize], n: usize, scope: usize, start: usize, end: usize) -> Row
+    ensures { λ r. ⌜ (Indexed (now (s .entry)) (now (cells .entry)) → r ≡ findRow (now (s .entry)) (rowsIn (now (cells .entry)) n) scope (slice start end (now (s .entry)))) ⌝ }
+{
+    let place = place(s, cells, n, scope, start, end);
+    if place == 0 {
+        return unknown();
+    }
+    if place < 425 {
+        return whole(cells, place - 1);
+    }
     searched(s, cells, n, scope, start, end)
+}
+
+// A scope's number, where it has one that fits.
+fn number_of(scope: Scope) -> usize
+    ensures { λ r. ⌜ (fitting scope ≡ true → r ≡ scopeOf scope) ⌝ }
+{
+    match scope {
+        Scope::Numbered(number) => number,
+        Scope::OfTask(task) => std::num::wrapping_add_usize(task, 1),
+    }
+}
+
+// How many of the first n rows may be of a scope: none where its number does not fit.
+fn rows_of(scope: Scope, n: usize) -> usize
+    ensures { λ r. ⌜ r ≡ cond (fitting scope) n 0 ⌝ }
+{
+    if let Scope::OfTask(task) = scope {
+        if 18446744073709551615 <= task {
+            return 0;
+        }
+    }
+    n
+}
+
+// What the name that stands from start up to end means in a scope, among the first n rows.
+pub fn find(s: &[u8], cells: &[usize], n: usize, scope: Scope, start: usize, end: usize) -> Row
+    ensures { λ r. ⌜ (Indexed (now (s .entry)) (now (cells .entry)) → r ≡ findRow (now (s .entry)) (rowsIn (now (cells .entry)) n) (scopeOf scope) (slice start end (now (s .entry)))) ⌝ }
+{
+    let rows = rows_of(scope, n);
+    let number = number_of(scope);
+    let place = place(s, cells, rows, number, start, end);
+    if place == 0 {
+        return unknown();
+    }
+    if place < 425 {
+        return whole(cells, place - 1);
+    }
+    searched(s, cells, rows, number, start, end)
 }
 
 // Whether a row is one of those that are counted.

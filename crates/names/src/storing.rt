@@ -3,7 +3,6 @@ ghost use mathlib.Core.Path.{_≡_};
 ghost use Prim.Native.Nat.{_+_, _-_, _*_, _<_};
 ghost use Rattle.names.specs.Tables.{roomIn};
 ghost use Rattle.names.specs.Index.{withRow, linkPlace, kindPlace, firstBy, tallied};
-use super::Scope;
 use super::Sought;
 use refusals::Row;
 
@@ -24,7 +23,7 @@ pub(crate) fn enter(s: &[u8], cells: &mut [usize], n: usize, row: Row)
     ensures { λ r. ⌜ now (cells .exit) ≡ withRow (now (s .entry)) (now (cells .entry)) n row ⌝ }
 {
     let key = super::hashing::key_in(s, row.start, row.end);
-    let chain = super::hashing::chain_of(Scope::Numbered(row.scope), key);
+    let chain = super::hashing::chain_of(row.scope, key);
     let last = super::least(cells[chain + 384], n);
     let place = link_place(chain, last);
     let first = n * 8 + 512;

@@ -1,6 +1,6 @@
 use Rattle.names.specs.Tables.{rowAt}
 use borrow.Author.Tests.{eq-eqb, ne-eqb}
-use mathlib.Core.Path.{_∙_}
+use native.Mathlib.Omega.{arith}
 use borrow.Author.Needs.{needs}
 use Rattle.names.proofs.is_marked.Statement.{statement}
 use Rattle.names.proofs.is_marked.Tie as tie
@@ -20,21 +20,18 @@ mul-if1 c = search needs
 shared-slice-read-if1 : tie.Need-shared-slice-read-if1
 shared-slice-read-if1 c = search needs
 
-add-is-in : tie.Need-add-is-in
-add-is-in c = search needs
+add-result : tie.Need-add-result
+add-result c = search needs
 
-mul-is-in : tie.Need-mul-is-in
-mul-is-in c = search needs
+mul-result : tie.Need-mul-result
+mul-result c = search needs
 
-shared-slice-read-is-in : tie.Need-shared-slice-read-is-in
-shared-slice-read-is-in c = search needs
-
-is-in-requires : tie.Need-is-in-requires
-is-in-requires c κs = search needs
+shared-slice-read-result : tie.Need-shared-slice-read-result
+shared-slice-read-result c = search needs
 
 returns : tie.Need-returns
 unfolding rowAt
-returns c = (c .is-in .ensures) ∙ simp (eq-eqb _ _ (c .before .before .if1 .taken))
+returns c = simp (eq-eqb _ _ (c .before .if1 .taken))
 
 returns-2 : tie.Need-returns-2
 returns-2 c = simp (ne-eqb _ _ (c .if1 .left))
@@ -48,9 +45,8 @@ is-marked-spec =
     add-if1
     mul-if1
     shared-slice-read-if1
-    add-is-in
-    mul-is-in
-    shared-slice-read-is-in
-    is-in-requires
+    add-result
+    mul-result
+    shared-slice-read-result
     returns
     returns-2)
