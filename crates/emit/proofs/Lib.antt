@@ -5,3 +5,4 @@ pub mod Going
 pub mod Parts
 pub mod Instants
 pub mod Modes
+pub mod Marks

@@ -7,3 +7,4 @@ pub mod Cases
 pub mod Emitted
 pub mod Lines
 pub mod Frames
+pub mod Edges

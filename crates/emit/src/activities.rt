@@ -1,12 +1,14 @@
 // The activities of a mode at one instant, put into the table of the code.
 ghost use mathlib.Core.Path.{_≡_};
-ghost use Prim.Native.Nat.{ℕ, _+_, _*_, _/_, _≤_, _<_};
+ghost use Prim.Native.Nat.{ℕ, _+_, _*_, _/_, _%_, min, _≤_, _<_};
+ghost use lib.Dec.{eqb};
 ghost use lib.ListN.{length};
 ghost use Rattle.timing.specs.Slots.{slotsFrom, spans, anyOf, nextOn, soonest};
 ghost use Rattle.timing.specs.Code.{fixed, guarded as guardedOf};
 ghost use Rattle.emit.specs.Rows.{guardBy, actBy, actsBy};
 ghost use Rattle.emit.specs.Emitted.{out, Stored, Emitted, countRoom};
 ghost use Rattle.emit.specs.Lines.{bodyOf, guardFor, edgeOf, line, lines};
+ghost use Rattle.emit.specs.Edges.{never, dueBy, Edge, Edges};
 
 pub(crate) const UNUSED: usize = 4294967295;
 
@@ -143,11 +145,86 @@ fn sooner(frequency: usize, length: usize, slots: usize, t: usize, soon: usize) 
     soon
 }
 
+// The first slot end ahead, and whether a slot begins and whether one ends, in one number.
+fn joined(end: usize, begins: bool, ends: bool) -> usize
+    requires { ⌜ end ≤ never ⌝ }
+    ensures { λ r. ⌜ (r / 4 ≡ end) × (eqb (r / 2 % 2) 1 ≡ begins) × (eqb (r % 2) 1 ≡ ends) ⌝ }
+{
+    if begins {
+        if ends {
+            return end * 4 + 3;
+        }
+        return end * 4 + 2;
+    }
+    if ends {
+        return end * 4 + 1;
+    }
+    end * 4
+}
+
+// What the slots of a frequency do at time t.
+fn edge(period: usize, t: usize, frequency: usize) -> usize
+    requires { ⌜ (period < 4294967296) × (t < 4294967296) ⌝ }
+    ensures { λ r. ⌜ Edge period t frequency r ⌝ }
+{
+    let length = over(period, frequency);
+    let slots = over(t, length);
+    let end = sooner(frequency, length, slots, t, 4294967296);
+    let begins = due(Kind::Release, frequency, length, slots, t);
+    let ends = due(Kind::Termination, frequency, length, slots, t);
+    joined(end, begins, ends)
+}
+
+// What the slots of the first frequencies do at time t.
+pub(crate) fn mark(edges: &mut [usize], period: usize, t: usize)
+    requires { ⌜ (period < 4294967296) × (t < 4294967296) ⌝ }
+    ensures { λ _. ⌜ Edges period t (now (edges .exit)) ⌝ }
+{
+    let mut frequency = 0;
+    while frequency < edges.len() {
+        edges[frequency] = edge(period, t, frequency);
+        frequency += 1;
+    }
+}
+
+// What the slots of a frequency do at time t, looked up among those of the first frequencies.
+fn marked(edges: &[usize], period: usize, t: usize, frequency: usize) -> usize
+    requires { ⌜ (period < 4294967296) × (t < 4294967296) × Edges period t (now edges) ⌝ }
+    ensures { λ r. ⌜ Edge period t frequency r ⌝ }
+{
+    if frequency < edges.len() {
+        return edges[frequency];
+    }
+    edge(period, t, frequency)
+}
+
+// Whether that makes an activity of a kind due.
+fn is_due(kind: Kind, edge: usize) -> bool
+    ensures { λ r. ⌜ r ≡ dueBy kind edge ⌝ }
+{
+    match kind {
+        Kind::Release => edge / 2 % 2 == 1,
+        _ => edge % 2 == 1,
+    }
+}
+
+// The sooner of `soon` and that first slot end.
+fn nearer(edge: usize, soon: usize) -> usize
+    ensures { λ r. ⌜ r ≡ min soon (edge / 4) ⌝ }
+{
+    let end = edge / 4;
+    if end < soon {
+        return end;
+    }
+    soon
+}
+
 // The activity of a row at time t, and the sooner of `soon` and its first slot end after t.
-fn turn(
+fn turn<'a>(
     code: &mut [u32],
     pc: usize,
-    acts: &[u32],
+    acts: &'a [u32],
+    edges: &'a [usize],
     kind: Kind,
     row: usize,
     driver: usize,
@@ -155,16 +232,15 @@ fn turn(
     t: usize,
     soon: usize,
 ) -> Walk
-    requires { ⌜ (pc + 3 ≤ countRoom) × (row < 5000000000) × (driver < 4294967296) × (period < 4294967296) × (t < 4294967296) ⌝ }
+    requires { ⌜ (pc + 3 ≤ countRoom) × (row < 5000000000) × (driver < 4294967296) × (period < 4294967296) × (t < 4294967296) × (soon ≤ never) × Edges period t (now edges) ⌝ }
     ensures { λ r. ⌜ Emitted (out (now (code .entry)) pc) (out (now (code .exit)) (r .pc)) (line kind period t driver (actBy (now (acts .entry)) row)) 3
         × (r .soon ≡ nextOn t (spans period (actBy (now (acts .entry)) row)) soon) ⌝ }
 {
     let at = row * 3;
     let frequency = cells::wide32(cells::at32(acts, at));
-    let length = over(period, frequency);
-    let slots = over(t, length);
-    let next = sooner(frequency, length, slots, t, soon);
-    if due(kind, frequency, length, slots, t) {
+    let edge = marked(edges, period, t, frequency);
+    let next = nearer(edge, soon);
+    if is_due(kind, edge) {
         let guard = seen(kind, cells::at32(acts, at + 1));
         let what = cells::wide32(cells::at32(acts, at + 2));
         let on = guarded(code, pc, kind, guard, what, driver);
@@ -174,10 +250,11 @@ fn turn(
 }
 
 // The activities of a kind, and the sooner of `soon` and their first slot end after t.
-pub(crate) fn run(
+pub(crate) fn run<'a>(
     code: &mut [u32],
     pc: usize,
-    acts: &[u32],
+    acts: &'a [u32],
+    edges: &'a [usize],
     kind: Kind,
     row: usize,
     count: usize,
@@ -186,7 +263,7 @@ pub(crate) fn run(
     t: usize,
     soon: usize,
 ) -> Walk
-    requires { ⌜ (pc + 3 * count ≤ countRoom) × (row + count < 5000000000) × (driver + count < 4294967296) × (period < 4294967296) × (t < 4294967296) ⌝ }
+    requires { ⌜ (pc + 3 * count ≤ countRoom) × (row + count < 5000000000) × (driver + count < 4294967296) × (period < 4294967296) × (t < 4294967296) × (soon ≤ never) × Edges period t (now edges) ⌝ }
     ensures { λ r. ⌜ Emitted (out (now (code .entry)) pc) (out (now (code .exit)) (r .pc)) (lines kind period t driver (actsBy (now (acts .entry)) row count)) (3 * count)
         × (r .soon ≡ soonest period t (actsBy (now (acts .entry)) row count) soon) ⌝ }
 {
@@ -194,7 +271,18 @@ pub(crate) fn run(
     let mut next = soon;
     let mut i = 0;
     while i < count {
-        let walk = turn(code, on, acts, kind, row + i, driver + i, period, t, next);
+        let walk = turn(
+            code,
+            on,
+            acts,
+            edges,
+            kind,
+            row + i,
+            driver + i,
+            period,
+            t,
+            next,
+        );
         on = walk.pc;
         next = walk.soon;
         i += 1;
@@ -203,16 +291,22 @@ pub(crate) fn run(
 }
 
 // The sooner of `soon` and the first slot end of some activities after time 0.
-pub(crate) fn ahead(acts: &[u32], row: usize, count: usize, period: usize, soon: usize) -> usize
-    requires { ⌜ (row + count < 5000000000) × (period < 4294967296) ⌝ }
+pub(crate) fn ahead<'a>(
+    acts: &'a [u32],
+    edges: &'a [usize],
+    row: usize,
+    count: usize,
+    period: usize,
+    soon: usize,
+) -> usize
+    requires { ⌜ (row + count < 5000000000) × (period < 4294967296) × (soon ≤ never) × Edges period 0 (now edges) ⌝ }
     ensures { λ r. ⌜ r ≡ soonest period 0 (actsBy (now (acts .entry)) row count) soon ⌝ }
 {
     let mut next = soon;
     let mut i = 0;
     while i < count {
         let frequency = cells::wide32(cells::at32(acts, (row + i) * 3));
-        let length = over(period, frequency);
-        next = sooner(frequency, length, over(0, length), 0, next);
+        next = nearer(marked(edges, period, 0, frequency), next);
         i += 1;
     }
     next

@@ -5,10 +5,12 @@ ghost use Rattle.timing.specs.Rules.{nextInstant};
 ghost use Rattle.timing.specs.Code.{_⊕_, front as frontOf, back as backOf, laterBlocks, instantsOf, modeCode};
 ghost use Rattle.emit.specs.Emitted.{out, Emitted, countRoom};
 ghost use Rattle.emit.specs.Frames.{modeIn, Framed};
+ghost use Rattle.emit.specs.Edges.{Edges};
 use super::activities::Kind;
 use super::activities::UNUSED;
 use super::activities::Walk;
 use super::activities::ahead;
+use super::activities::mark;
 use super::activities::put;
 use super::activities::run;
 
@@ -23,15 +25,23 @@ pub(crate) struct Frame {
 }
 
 // The first instant of a mode.
-fn first(acts: &[u32], frame: Frame) -> usize
-    requires { ⌜ Framed frame ⌝ }
+fn first<'a>(acts: &'a [u32], edges: &'a [usize], frame: Frame) -> usize
+    requires { ⌜ Framed frame × Edges (frame .period) 0 (now edges) ⌝ }
     ensures { λ r. ⌜ r ≡ nextInstant (modeIn (now (acts .entry)) frame) 0 ⌝ }
 {
     let updates = frame.row + frame.calls;
-    let called = ahead(acts, frame.row, frame.calls, frame.period, frame.period);
-    let updated = ahead(acts, updates, frame.updates, frame.period, called);
+    let called = ahead(
+        acts,
+        edges,
+        frame.row,
+        frame.calls,
+        frame.period,
+        frame.period,
+    );
+    let updated = ahead(acts, edges, updates, frame.updates, frame.period, called);
     ahead(
         acts,
+        edges,
         updates + frame.updates,
         frame.switches,
         frame.period,
@@ -40,8 +50,15 @@ fn first(acts: &[u32], frame: Frame) -> usize
 }
 
 // Terminations, nop 1, updates, nop 2, switches; and the instant after t.
-fn front(code: &mut [u32], pc: usize, acts: &[u32], frame: Frame, t: usize) -> Walk
-    requires { ⌜ (pc + 290 ≤ countRoom) × Framed frame × (t < 4294967296) ⌝ }
+fn front<'a>(
+    code: &mut [u32],
+    pc: usize,
+    acts: &'a [u32],
+    edges: &'a [usize],
+    frame: Frame,
+    t: usize,
+) -> Walk
+    requires { ⌜ (pc + 290 ≤ countRoom) × Framed frame × (t < 4294967296) × Edges (frame .period) t (now edges) ⌝ }
     ensures { λ r. ⌜ Emitted (out (now (code .entry)) pc) (out (now (code .exit)) (r .pc)) (frontOf (frame .driver) (modeIn (now (acts .entry)) frame) t) 290
         × (r .soon ≡ nextInstant (modeIn (now (acts .entry)) frame) t) ⌝ }
 {
@@ -51,6 +68,7 @@ fn front(code: &mut [u32], pc: usize, acts: &[u32], frame: Frame, t: usize) -> W
         code,
         pc,
         acts,
+        edges,
         Kind::Termination,
         frame.row,
         frame.calls,
@@ -64,6 +82,7 @@ fn front(code: &mut [u32], pc: usize, acts: &[u32], frame: Frame, t: usize) -> W
         code,
         first,
         acts,
+        edges,
         Kind::Update,
         updates,
         frame.updates,
@@ -77,6 +96,7 @@ fn front(code: &mut [u32], pc: usize, acts: &[u32], frame: Frame, t: usize) -> W
         code,
         second,
         acts,
+        edges,
         Kind::Switch,
         updates + frame.updates,
         frame.switches,
@@ -88,8 +108,16 @@ fn front(code: &mut [u32], pc: usize, acts: &[u32], frame: Frame, t: usize) -> W
 }
 
 // Releases, future, return.
-fn back(code: &mut [u32], pc: usize, acts: &[u32], frame: Frame, t: usize, distance: usize) -> usize
-    requires { ⌜ (pc + 98 ≤ countRoom) × Framed frame × (t < 4294967296) × (distance < 4294967296) ⌝ }
+fn back<'a>(
+    code: &mut [u32],
+    pc: usize,
+    acts: &'a [u32],
+    edges: &'a [usize],
+    frame: Frame,
+    t: usize,
+    distance: usize,
+) -> usize
+    requires { ⌜ (pc + 98 ≤ countRoom) × Framed frame × (t < 4294967296) × (distance < 4294967296) × Edges (frame .period) t (now edges) ⌝ }
     ensures { λ r. ⌜ Emitted (out (now (code .entry)) pc) (out (now (code .exit)) r) (backOf (frame .driver) (modeIn (now (acts .entry)) frame) t distance) 98 ⌝ }
 {
     let period = frame.period;
@@ -97,6 +125,7 @@ fn back(code: &mut [u32], pc: usize, acts: &[u32], frame: Frame, t: usize, dista
         code,
         pc,
         acts,
+        edges,
         Kind::Release,
         frame.row,
         frame.calls,
@@ -116,8 +145,10 @@ fn block(code: &mut [u32], pc: usize, acts: &[u32], frame: Frame, t: usize) -> W
         (frontOf (frame .driver) (modeIn (now (acts .entry)) frame) t ⊕ backOf (frame .driver) (modeIn (now (acts .entry)) frame) t (nextInstant (modeIn (now (acts .entry)) frame) t - t)) 388
         × (r .soon ≡ nextInstant (modeIn (now (acts .entry)) frame) t) ⌝ }
 {
-    let ends = front(code, pc, acts, frame, t);
-    let on = back(code, ends.pc, acts, frame, t, ends.soon - t);
+    let mut edges = [0usize; 5];
+    mark(&mut edges, frame.period, t);
+    let ends = front(code, pc, acts, &edges, frame, t);
+    let on = back(code, ends.pc, acts, &edges, frame, t, ends.soon - t);
     Walk {
         pc: on,
         soon: ends.soon,
@@ -145,7 +176,9 @@ fn later(
         on = walk.pc;
         t = walk.soon;
     }
-    let end = front(code, on, acts, frame, period);
+    let mut edges = [0usize; 5];
+    mark(&mut edges, period, period);
+    let end = front(code, on, acts, &edges, frame, period);
     put(code, end.pc, 5, begin, UNUSED)
 }
 
@@ -154,7 +187,9 @@ pub(crate) fn mode(code: &mut [u32], pc: usize, acts: &[u32], frame: Frame) -> u
     requires { ⌜ (pc + 1800000000000 ≤ countRoom) × Framed frame ⌝ }
     ensures { λ r. ⌜ Emitted (out (now (code .entry)) pc) (out (now (code .exit)) r) (modeCode (frame .driver) (modeIn (now (acts .entry)) frame)) 1800000000000 ⌝ }
 {
-    let t = first(acts, frame);
-    let on = back(code, pc, acts, frame, 0, t);
+    let mut edges = [0usize; 5];
+    mark(&mut edges, frame.period, 0);
+    let t = first(acts, &edges, frame);
+    let on = back(code, pc, acts, &edges, frame, 0, t);
     later(code, on, acts, frame, pc, t)
 }

@@ -1,7 +1,7 @@
-use mathlib.Core.Path.{sym, _∙_}
-use native.Mathlib.Nat.{div-le-self}
+use Prim.Native.Nat.{_/_}
+use mathlib.Core.Path.{refl, sym, _∙_}
 use Rattle.emit.proofs.Going.{turned, unturned}
-use native.Mathlib.Omega.{arith}
+use Rattle.emit.proofs.Marks.{due-is, near-is}
 use borrow.Author.Needs.{needs}
 use Rattle.emit.proofs.activities.turn.Statement.{statement}
 use Rattle.emit.proofs.activities.turn.Tie as tie
@@ -15,23 +15,14 @@ at32-requires c κs = search needs
 wide32-requires : tie.Need-wide32-requires
 wide32-requires c κs = search needs
 
-over-requires : tie.Need-over-requires
-over-requires c κs = search needs
+marked-requires : tie.Need-marked-requires
+marked-requires c κs = search needs
 
-over-requires-2 : tie.Need-over-requires-2
-over-requires-2 c κs = search needs
+nearer-requires : tie.Need-nearer-requires
+nearer-requires c κs = search needs
 
-sooner-requires : tie.Need-sooner-requires
-sooner-requires c κs =
-    let over2 = c .over2 in
-    let pre = c .before .before .before .before .before .before .pre in
-    let over = c .before .over in
-    let args = c .before .before .before .before .before .before .args in
-    let wide32 = c .before .before .wide32 in
-    (over2 .ensures, pre .4, omega (arith, over .ensures, pre .3, div-le-self (args .period) (wide32 .result)))
-
-due-requires : tie.Need-due-requires
-due-requires c κs = search needs
+is-due-requires : tie.Need-is-due-requires
+is-due-requires c κs = search needs
 
 add-at32 : tie.Need-add-at32
 add-at32 c = search needs
@@ -60,31 +51,34 @@ same-length c = search needs
 returns : tie.Need-returns
 returns c =
     let args = c .before .before .before .before .before .before .before .before .before .before .before .before .before .before .before .before .before .args in
-    let wide32 = c .before .before .before .before .before .before .before .before .before .before .before .before .before .wide32 in
-    let over = c .before .before .before .before .before .before .before .before .before .before .before .before .over in
-    let at32 = c .before .before .before .before .before .before .before .before .before .before .before .before .before .before .at32 in
-    let sooner = c .before .before .before .before .before .before .before .before .before .before .sooner in
-    let seen = c .before .before .before .before .before .before .seen in
-    let at322 = c .before .before .before .before .before .before .before .at322 in
-    let wide322 = c .before .before .before .before .wide322 in
+    let pre = c .before .before .before .before .before .before .before .before .before .before .before .before .before .before .before .before .before .pre in
+    let wide32 = c .before .before .before .before .before .before .before .before .before .before .before .before .wide32 in
+    let at32 = c .before .before .before .before .before .before .before .before .before .before .before .before .before .at32 in
+    let marked = c .before .before .before .before .before .before .before .before .before .before .before .marked in
+    let nearer = c .before .before .before .before .before .before .before .before .before .before .nearer in
+    let is-due = c .before .before .before .before .before .before .before .before .before .is-due in
     let if1 = c .before .before .before .before .before .before .before .before .if1 in
-    let due = c .before .before .before .before .before .before .before .before .before .due in
+    let at322 = c .before .before .before .before .before .before .before .at322 in
+    let seen = c .before .before .before .before .before .before .seen in
     let at323 = c .before .before .before .before .before .at323 in
+    let wide322 = c .before .before .before .before .wide322 in
     let guarded = c .before .before .guarded in
-    turned (args .acts .now) (args .period) (args .t) (args .row) (wide32 .result) (over .result) (wide32 .ensures .0 ∙ at32 .ensures) (over .ensures) (args .kind) (args .driver)
-    (args .soon) (sooner .result) (seen .result) (at322 .result) (wide322 .result) (sym (if1 .taken) ∙ due .ensures) (sooner .ensures) (seen .ensures) (at322 .ensures) (wide322 .ensures .0 ∙ at323 .ensures) (guarded .ensures)
+    turned (args .acts .now) (args .period) (args .t) (args .row) (wide32 .result) (args .period / wide32 .result) (wide32 .ensures .0 ∙ at32 .ensures) refl (args .kind) (args .driver)
+    (args .soon) (nearer .result) (seen .result) (at322 .result) (wide322 .result) (sym (if1 .taken) ∙ is-due .ensures ∙ due-is (marked .ensures) (args .kind))
+    (near-is (marked .ensures) (args .soon) (nearer .result) (pre .5) (nearer .ensures)) (seen .ensures) (at322 .ensures) (wide322 .ensures .0 ∙ at323 .ensures) (guarded .ensures)
 
 returns-2 : tie.Need-returns-2
 returns-2 c =
     let args = c .before .before .before .before .before .before .before .before .before .args in
-    let wide32 = c .before .before .before .before .before .wide32 in
-    let over = c .before .before .before .before .over in
-    let at32 = c .before .before .before .before .before .before .at32 in
-    let sooner = c .before .before .sooner in
+    let pre = c .before .before .before .before .before .before .before .before .before .pre in
+    let wide32 = c .before .before .before .before .wide32 in
+    let at32 = c .before .before .before .before .before .at32 in
+    let marked = c .before .before .before .marked in
+    let nearer = c .before .before .nearer in
+    let is-due = c .before .is-due in
     let if1 = c .if1 in
-    let due = c .before .due in
-    unturned (args .acts .now) (args .period) (args .t) (args .row) (wide32 .result) (over .result) (wide32 .ensures .0 ∙ at32 .ensures) (over .ensures) (args .kind) (args .driver)
-    _ (args .soon) (sooner .result) (sym (if1 .left) ∙ due .ensures) (sooner .ensures)
+    unturned (args .acts .now) (args .period) (args .t) (args .row) (wide32 .result) (args .period / wide32 .result) (wide32 .ensures .0 ∙ at32 .ensures) refl (args .kind) (args .driver)
+    _ (args .soon) (nearer .result) (sym (if1 .left) ∙ is-due .ensures ∙ due-is (marked .ensures) (args .kind)) (near-is (marked .ensures) (args .soon) (nearer .result) (pre .5) (nearer .ensures))
 
 pub turn-spec : {M : Type 1} → statement M
 turn-spec =
@@ -93,10 +87,9 @@ turn-spec =
     mul-at
     at32-requires
     wide32-requires
-    over-requires
-    over-requires-2
-    sooner-requires
-    due-requires
+    marked-requires
+    nearer-requires
+    is-due-requires
     add-at32
     at32-requires-2
     seen-requires

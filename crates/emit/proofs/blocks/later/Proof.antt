@@ -8,6 +8,7 @@ use Rattle.emit.specs.Frames.{modeIn}
 use Rattle.emit.proofs.Parts.{period-is}
 use Rattle.emit.proofs.Instants.{Left, left-begins, left-on, left-ends}
 use native.Mathlib.Omega.{arith}
+use borrow.Author.Needs.{needs}
 use Rattle.emit.proofs.blocks.later.Statement.{statement}
 use Rattle.emit.proofs.blocks.later.Tie as tie
 
@@ -54,16 +55,27 @@ loop-again c =
       code .given ∙ loop .inv .4,
     )
 
+slice-aggregate-mark : tie.Need-slice-aggregate-mark Inv-loop μ-loop
+slice-aggregate-mark c = search needs
+
+mark-requires : tie.Need-mark-requires Inv-loop μ-loop
+mark-requires c κs =
+    let pre = c .before .before .before .before .before .pre in
+    (pre .1 .short, pre .1 .short)
+
+slice-aggregate-front : tie.Need-slice-aggregate-front Inv-loop μ-loop
+slice-aggregate-front c = search needs
+
 front-requires : tie.Need-front-requires Inv-loop μ-loop
 front-requires c κs =
-    let pre = c .before .before .before .before .before .pre in
-    let loop = c .before .before .loop in
-    (omega (arith, pre .0, pre .1 .short, loop .inv .2, loop .inv .3), pre .1, pre .1 .short)
+    let pre = c .before .before .before .before .before .before .before .before .before .pre in
+    let loop = c .before .before .before .before .before .before .loop in
+    (omega (arith, pre .0, pre .1 .short, loop .inv .2, loop .inv .3), pre .1, pre .1 .short, c .before .before .before .mark .ensures)
 
 put-requires : tie.Need-put-requires Inv-loop μ-loop
 put-requires c κs =
-    let pre = c .before .before .before .before .before .before .before .before .before .pre in
-    let loop = c .before .before .before .before .before .before .loop in
+    let pre = c .before .before .before .before .before .before .before .before .before .before .before .before .before .pre in
+    let loop = c .before .before .before .before .before .before .before .before .before .before .loop in
     let front = c .before .before .before .front in
     (omega (arith, pre .0, pre .1 .short, loop .inv .2, loop .inv .3, front .ensures .0 .few), λ h. (omega (arith, pre .2, loop .inv .1, front .ensures .0 .on), omega arith))
 
@@ -71,17 +83,17 @@ same-length : tie.Need-same-length Inv-loop μ-loop
 same-length c =
     let code3 = c .before .code3 in
     let code2 = c .before .before .before .before .before .code2 in
-    let loop = c .before .before .before .before .before .before .before .before .before .loop in
+    let loop = c .before .before .before .before .before .before .before .before .before .before .before .before .before .loop in
     code3 .given ∙ code2 .given ∙ loop .inv .4
 
 returns : tie.Need-returns Inv-loop μ-loop
 returns c =
-    let args = c .before .before .before .before .before .before .before .before .before .before .before .before .args in
-    let loop = c .before .before .before .before .before .before .before .before .before .loop in
-    let loop-test = c .before .before .before .before .before .before .before .before .loop-test in
+    let args = c .before .before .before .before .before .before .before .before .before .before .before .before .before .before .before .before .args in
+    let loop = c .before .before .before .before .before .before .before .before .before .before .before .before .before .loop in
+    let loop-test = c .before .before .before .before .before .before .before .before .before .before .before .before .loop-test in
     let front = c .before .before .before .before .before .before .front in
     let put = c .before .before .put in
-    let pre = c .before .before .before .before .before .before .before .before .before .before .before .before .pre in
+    let pre = c .before .before .before .before .before .before .before .before .before .before .before .before .before .before .before .before .pre in
     record {
       code = left-ends (args .frame .driver) (modeIn (args .acts .now) (args .frame)) (args .begin) (loop .t) (args .frame .period) (period-is (args .acts .now) (args .frame)) (loop-test .left) (loop .inv .0) (front .ensures .0) (put .ensures);
       few = omega (arith, pre .1 .short, loop .inv .2, loop .inv .3, front .ensures .0 .few, put .ensures .one-more);
@@ -98,6 +110,9 @@ later-spec =
     block-requires
     loop-less
     loop-again
+    slice-aggregate-mark
+    mark-requires
+    slice-aggregate-front
     front-requires
     put-requires
     same-length
