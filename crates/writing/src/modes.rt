@@ -1,7 +1,8 @@
 // Modes and code.
 ghost use mathlib.Core.Path.{_≡_};
-ghost use Prim.Native.Nat.{_<_, _^_};
-ghost use Rattle.writing.specs.Puts.{Puts};
+ghost use Prim.Native.Nat.{_+_, _*_, _≤_, _<_, _^_};
+ghost use lib.ListN.{length};
+ghost use Rattle.writing.specs.Puts.{Puts, parts};
 ghost use Rattle.writing.specs.Cells.{modeIn, modesIn, instructionAt, codeIn};
 use super::names::name;
 use super::numbers::byte;
@@ -43,33 +44,57 @@ fn cut_instruction(buffer: &mut [u8], at: usize, rows: &[u32], row: usize) -> us
     quad(buffer, first, cells::at32(rows, row + 2))
 }
 
-fn instruction(buffer: &mut [u8], at: usize, rows: &[u32], row: usize) -> usize
-    requires { ⌜ row < 2 ^ 32 ⌝ }
-    ensures { λ r. ⌜ Puts (now (buffer .entry)) at (instructionAt (now (rows .entry)) row) (now (buffer .exit)) r ⌝ }
+// Instructions where the rows or the buffer may end within them.
+fn cut_instructions(buffer: &mut [u8], at: usize, rows: &[u32], n: usize) -> usize
+    requires { ⌜ n ≤ 4096 ⌝ }
+    ensures { λ r. ⌜ Puts (now (buffer .entry)) at (parts (λ j. instructionAt (now (rows .entry)) (j * 3)) n) (now (buffer .exit)) r ⌝ }
 {
-    if buffer.len() < 9 {
-        return cut_instruction(buffer, at, rows, row);
+    let mut next = at;
+    let mut k = 0;
+    while k < n {
+        next = cut_instruction(buffer, next, rows, k * 3);
+        k += 1;
     }
-    if buffer.len() - 9 < at {
-        return cut_instruction(buffer, at, rows, row);
-    }
-    if rows.len() < row + 3 {
-        return cut_instruction(buffer, at, rows, row);
-    }
+    next
+}
+
+// An instruction that the rows hold and the buffer has room for.
+fn instruction(buffer: &mut [u8], at: usize, rows: &[u32], row: usize) -> usize
+    requires { ⌜ (at + 9 ≤ length (now buffer)) × (row + 3 ≤ length (now rows)) ⌝ }
+    ensures { λ r. ⌜ Puts (now (buffer .entry)) at (instructionAt (now (rows .entry)) row) (now (buffer .exit)) r × (r ≡ at + 9) ⌝ }
+{
     buffer[at] = (rows[row] % 256) as u8;
     let first = whole_quad(buffer, at + 1, rows[row + 1]);
     whole_quad(buffer, first, rows[row + 2])
 }
 
-pub fn code(buffer: &mut [u8], at: usize, rows: &[u32], many: u32) -> usize
-    ensures { λ r. ⌜ Puts (now (buffer .entry)) at (codeIn (now (rows .entry)) many) (now (buffer .exit)) r ⌝ }
+// Instructions that the rows hold and the buffer has room for.
+fn instructions(buffer: &mut [u8], at: usize, rows: &[u32], n: usize) -> usize
+    requires { ⌜ (n ≤ 4096) × (at + n * 9 ≤ length (now buffer)) × (n * 3 ≤ length (now rows)) ⌝ }
+    ensures { λ r. ⌜ Puts (now (buffer .entry)) at (parts (λ j. instructionAt (now (rows .entry)) (j * 3)) n) (now (buffer .exit)) r ⌝ }
 {
-    let n = few(many, 4096);
-    let mut next = pair(buffer, at, many);
+    let mut next = at;
     let mut k = 0;
     while k < n {
         next = instruction(buffer, next, rows, k * 3);
         k += 1;
     }
     next
+}
+
+pub fn code(buffer: &mut [u8], at: usize, rows: &[u32], many: u32) -> usize
+    ensures { λ r. ⌜ Puts (now (buffer .entry)) at (codeIn (now (rows .entry)) many) (now (buffer .exit)) r ⌝ }
+{
+    let n = few(many, 4096);
+    let next = pair(buffer, at, many);
+    if rows.len() < n * 3 {
+        return cut_instructions(buffer, next, rows, n);
+    }
+    if buffer.len() < n * 9 {
+        return cut_instructions(buffer, next, rows, n);
+    }
+    if buffer.len() - n * 9 < next {
+        return cut_instructions(buffer, next, rows, n);
+    }
+    instructions(buffer, next, rows, n)
 }

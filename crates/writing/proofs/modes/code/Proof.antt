@@ -1,64 +1,87 @@
-use mathlib.Core.Path.{_≡_, refl}
-use Prim.Native.Nat.{_-_, _*_, _≤_, min}
-use lib.ListN.{length}
 use Rattle.writing.specs.Puts as puts
-use Rattle.writing.specs.Puts.{Puts, parts}
-use Rattle.writing.specs.Cells.{instructionAt, codeIn}
+use Rattle.writing.specs.Puts.{parts}
+use Rattle.writing.specs.Cells.{codeIn}
 use borrow.Author.Needs.{needs}
-use native.Mathlib.Omega.{arith}
 use Rattle.writing.proofs.modes.code.Statement.{statement}
 use Rattle.writing.proofs.modes.code.Tie as tie
 
-abbrev Inv-loop : tie.InvT-loop
-Inv-loop buffer₀ at rows many n next₀ k₀ buffer next k = (n ≡ min many 4096) × (k ≤ n) × (length buffer ≡ length buffer₀) × Puts buffer₀ next₀ (parts (λ j. instructionAt rows (j * 3)) k) buffer next
-
-abbrev μ-loop : tie.MeasureT-loop
-μ-loop buffer₀ at rows many n next₀ k₀ buffer next k = n - k
-
-few-requires : tie.Need-few-requires Inv-loop μ-loop
+few-requires : tie.Need-few-requires
 few-requires c κs = search needs
 
-pair-requires : tie.Need-pair-requires Inv-loop μ-loop
+pair-requires : tie.Need-pair-requires
 pair-requires c κs = search needs
 
-loop-holds : tie.Need-loop-holds Inv-loop μ-loop
-loop-holds c = (c .before .before .before .before .few .ensures, omega arith, refl, puts.puts-begin _)
+mul-if1 : tie.Need-mul-if1
+mul-if1 c = search needs
 
-mul-instruction : tie.Need-mul-instruction Inv-loop μ-loop
-mul-instruction c = search needs
+cut-instructions-requires : tie.Need-cut-instructions-requires
+cut-instructions-requires c κs = search needs
 
-instruction-requires : tie.Need-instruction-requires Inv-loop μ-loop
-instruction-requires c κs = search needs
-
-add-k : tie.Need-add-k Inv-loop μ-loop
-add-k c = search needs
-
-loop-less : tie.Need-loop-less Inv-loop μ-loop
-loop-less c = search needs
-
-loop-again : tie.Need-loop-again Inv-loop μ-loop
-loop-again c = let i = c .before .before .before .before .before .loop .inv in (i .0, omega arith, search needs, puts.puts-more _ (i .3) (c .before .before .instruction .ensures) refl)
-
-same-length : tie.Need-same-length Inv-loop μ-loop
+same-length : tie.Need-same-length
 same-length c = search needs
 
-returns : tie.Need-returns Inv-loop μ-loop
+returns : tie.Need-returns
 unfolding codeIn
-returns c = let i = c .before .loop .inv in let e : c .before .loop .k ≡ min (c .before .before .before .before .before .before .before .before .before .args .many) 4096 = omega arith in puts.puts-both (c .before .before .before .before .pair .ensures) (puts.puts-of (parts _) e (i .3))
+returns c = puts.puts-both (c .before .before .before .before .before .before .before .pair .ensures) (puts.puts-of (parts _) (c .before .before .before .before .before .before .before .before .before .few .ensures) (c .before .before .cut-instructions .ensures))
+
+mul-if2 : tie.Need-mul-if2
+mul-if2 c = search needs
+
+cut-instructions-requires-2 : tie.Need-cut-instructions-requires-2
+cut-instructions-requires-2 c κs = search needs
+
+same-length-2 : tie.Need-same-length-2
+same-length-2 c = search needs
+
+returns-2 : tie.Need-returns-2
+unfolding codeIn
+returns-2 c = puts.puts-both (c .before .before .before .before .before .before .before .before .pair .ensures) (puts.puts-of (parts _) (c .before .before .before .before .before .before .before .before .before .before .few .ensures) (c .before .before .cut-instructions2 .ensures))
+
+mul-if3 : tie.Need-mul-if3
+mul-if3 c = search needs
+
+sub-if3 : tie.Need-sub-if3
+sub-if3 c = search needs
+
+cut-instructions-requires-3 : tie.Need-cut-instructions-requires-3
+cut-instructions-requires-3 c κs = search needs
+
+same-length-3 : tie.Need-same-length-3
+same-length-3 c = search needs
+
+returns-3 : tie.Need-returns-3
+unfolding codeIn
+returns-3 c = puts.puts-both (c .before .before .before .before .before .before .before .before .before .pair .ensures) (puts.puts-of (parts _) (c .before .before .before .before .before .before .before .before .before .before .before .few .ensures) (c .before .before .cut-instructions3 .ensures))
+
+instructions-requires : tie.Need-instructions-requires
+instructions-requires c κs = search needs
+
+same-length-4 : tie.Need-same-length-4
+same-length-4 c = search needs
+
+returns-4 : tie.Need-returns-4
+unfolding codeIn
+returns-4 c = puts.puts-both (c .before .before .before .before .before .before .before .before .before .pair .ensures) (puts.puts-of (parts _) (c .before .before .before .before .before .before .before .before .before .before .before .few .ensures) (c .before .before .instructions .ensures))
 
 pub code-spec : {M : Type 1} → statement M
 code-spec =
     tie.close
     (tie.spec
-    Inv-loop
-    μ-loop
     few-requires
     pair-requires
-    loop-holds
-    mul-instruction
-    instruction-requires
-    add-k
-    loop-less
-    loop-again
+    mul-if1
+    cut-instructions-requires
     same-length
-    returns)
+    returns
+    mul-if2
+    cut-instructions-requires-2
+    same-length-2
+    returns-2
+    mul-if3
+    sub-if3
+    cut-instructions-requires-3
+    same-length-3
+    returns-3
+    instructions-requires
+    same-length-4
+    returns-4)
