@@ -29,6 +29,7 @@ use Rattle.names.specs.Tables.{rowsIn}
 use Rattle.names.specs.Index.{emptyTable, tableIn}
 use Rattle.meanings.specs.Held.{rowsOf, heldRow}
 use Rattle.meanings.specs.declared.declaring.Declaration.{Declaration}
+use Rattle.meanings.specs.declared.declaring.Declaration.the-variants.{Nothing}
 use Rattle.noting.specs.declared.Known.{Known}
 use Rattle.noting.specs.Known.{nothingKnown, notedBy}
 use Rattle.noting.specs.Laying.{Laid, Entered}
@@ -38,7 +39,6 @@ use Rattle.targets.specs.AheadLaws.{goes-plain, stop-quiet}
 use Rattle.rules.specs.Meets.{Meets}
 use Rattle.rules.specs.declared.Judged.{Judged}
 use Rattle.rules.specs.declared.Turn.{Turn}
-use Rattle.rules.specs.declared.Turn.the-variants.{Stop, On}
 
 -- the names that a text declares
 abbrev pub allNames : List ℕ → List Row
@@ -64,10 +64,21 @@ pub record Answered (s : List ℕ) (verdict : Verdict) (cells : List ℕ) (n : �
   pub leftmost : verdict ≡ verdictOf s
   pub names : verdict ≡ Fine → Tabled s (allNames s) cells n
 
--- a turn of the pass: it answers, or it stands behind what was read, which is further on
+-- a turn of the pass: it stands behind what was read, which is further on, or it answers
+abbrev pub TurnedBy : Bool → List ℕ → ℕ → ReadItem → Verdict → ℕ → Known → List ℕ → List ℕ → List ℕ → List ℕ → Type 0
+TurnedBy true s from read verdict n known cells rates tasks aims = (from < read .next) × Going s (read .state) (read .next) cells n known rates tasks aims
+TurnedBy false s from read verdict n known cells rates tasks aims = Answered s verdict cells n
+
 abbrev pub Turned : List ℕ → ℕ → ReadItem → Turn → List ℕ → List ℕ → List ℕ → List ℕ → Type 0
-Turned s from read (Stop verdict n) cells rates tasks aims = Answered s verdict cells n
-Turned s from read (On n known) cells rates tasks aims = (from < read .next) × Going s (read .state) (read .next) cells n known rates tasks aims
+Turned s from read turn cells rates tasks aims = TurnedBy (turn .on) s from read (turn .verdict) (turn .rows) (turn .known) cells rates tasks aims
+
+-- the turn of an item that breaks this: it goes on where nothing is broken
+abbrev pub turnOf : ℕ → Verdict → Known → Turn
+turnOf n verdict next = record { on = isFine verdict; verdict = verdict; rows = n; known = next }
+
+-- the turn behind which nothing comes
+abbrev pub stopOf : ℕ → Verdict → Known → Turn
+stopOf n verdict known = record { on = false; verdict = verdict; rows = n; known = known }
 
 -- what an item breaks, what is known behind it, and what is laid ready, by what is known before it
 pub record Acts (s : List ℕ) (env : Env) (item : Item) (rows : List Row) (verdict : Verdict) (known next : Known) (rates tasks aims ratesThen tasksThen aimsThen : List ℕ) : Type 0 where
@@ -80,6 +91,23 @@ pub record Enters (s cells : List ℕ) (n : ℕ) (item : Item) (cellsThen : List
   pub declaration : Declaration
   pub declared : rowsOf declaration ≡ map heldRow (declares s (rowsIn cells n) item)
   pub entered : Entered s cells n declaration cellsThen count
+
+-- a turn tells what an item breaks and what is known behind it; what the item declares is entered where it breaks nothing
+pub record Told (s cells : List ℕ) (n : ℕ) (item : Item) (verdict : Verdict) (next : Known) (turn : Turn) (cellsThen : List ℕ) : Type 0 where
+  pub count : ℕ
+  pub tells : turn ≡ turnOf count verdict next
+  pub broken : isFine verdict ≡ false → (cellsThen ≡ cells) × (count ≡ n)
+  pub entered : verdict ≡ Fine → Enters s cells n item cellsThen count
+
+-- an item that declares nothing leaves the table as it is
+pub told-plain : {s cells : List ℕ} {n : ℕ} {item : Item} {verdict : Verdict} {next : Known} {turn : Turn} → turn ≡ turnOf n verdict next → declares s (rowsIn cells n) item ≡ [] → Told s cells n item verdict next turn cells
+told-plain {n = n} e q =
+    record {
+      count = n;
+      tells = e;
+      broken = λ f. (refl, refl);
+      entered = λ f. record { declaration = Nothing; declared = rw q; entered = (refl, refl) };
+    }
 
 -- the table without names, and arrays for the activities of a mode
 pub record Spread (cells rates tasks aims : List ℕ) : Type 0 where
@@ -189,6 +217,30 @@ module _ {s : List ℕ} {state : State} {at : ℕ} {cells : List ℕ} {n : ℕ} 
           drafted = rw note (drafted-on s all env known rates tasks aims ratesThen tasksThen aimsThen come v (rows-room (g .rowed)) (g .rowed .fits) (rw (g .rowed .same) at l) (g .drafted));
         },
       )
+
+  -- the turn of an item behind which others come
+  pub goes-told : {verdict : Verdict} {next : Known} {turn : Turn} {cellsThen ratesThen tasksThen aimsThen : List ℕ} → Acts s (g .env) (read .item) (rowsIn cells n) verdict known next rates tasks aims ratesThen tasksThen aimsThen
+      → goes (read .item) ≡ true → Told s cells n (read .item) verdict next turn cellsThen → Turned s at read turn cellsThen ratesThen tasksThen aimsThen
+  goes-told {verdict} {next} {turn} {cellsThen} {ratesThen} {tasksThen} {aimsThen} a k t = rw (t .tells) (by verdict refl)
+    where
+      by : (v : Verdict) → verdict ≡ v → TurnedBy (isFine v) s at read v (t .count) next cellsThen ratesThen tasksThen aimsThen
+      by Fine e = goes-on (a .laid) (sym (a .judged) ∙ e) k (t .entered e) (a .noted)
+      by (No number place) e = let same = t .broken (ap isFine e) in rw (same .0, same .1) (goes-out (No number place) (sym e ∙ a .judged) refl)
+
+  -- the turn of an item that is this one
+  pub turns : {item : Item} → read .item ≡ item → {ratesThen tasksThen aimsThen : List ℕ} → Laid s (rowsIn cells n) known item rates tasks aims ratesThen tasksThen aimsThen
+      → {verdict : Verdict} → (Meets s (allNames s) (g .env) state at known item cells n ratesThen tasksThen aimsThen → verdict ≡ first (rules s (allNames s) (g .env) item))
+      → {next : Known} → next ≡ notedBy s (rowsIn cells n) known item → goes item ≡ true → {turn : Turn} {cellsThen : List ℕ} → Told s cells n item verdict next turn cellsThen → Turned s at read turn cellsThen ratesThen tasksThen aimsThen
+  turns {item} same {ratesThen} {tasksThen} {aimsThen} l {verdict} v {next} q k {turn} {cellsThen} t =
+      let told : Told s cells n (read .item) verdict next turn cellsThen = rw same t in
+      let laid : Laid s (rowsIn cells n) known (read .item) rates tasks aims ratesThen tasksThen aimsThen = rw same l in
+      let on : goes (read .item) ≡ true = rw same k in
+      goes-told (acts-by laid same v q) on told
+
+  -- the answer at an item behind which nothing comes
+  pub goes-over : (v : Verdict) → v ≡ first (rules s (allNames s) (g .env) (read .item)) → goes (read .item) ≡ false → Answered s v cells n
+  goes-over Fine e k = goes-stop (sym e) k
+  goes-over (No number place) e k = goes-out (No number place) e refl
 
 -- ---- the answer as a whole
 

@@ -1,8 +1,11 @@
 // A declaration: what it breaks, and the name that it enters.
 ghost use mathlib.Core.Path.{_≡_};
 ghost use mathlib.Core.List.{List, map};
-ghost use Prim.Native.Nat.{_<_};
+ghost use mathlib.Core.Bool.{Bool};
+ghost use Prim.Native.Nat.{ℕ, _<_};
 ghost use lib.ListN.{getD};
+ghost use Rattle.text.specs.declared.Name.{Name};
+ghost use Rattle.text.specs.declared.Item.the-variants.{ModeBegin};
 ghost use Rattle.refusals.specs.declared.Row.{Row};
 ghost use Rattle.refusals.specs.Checks.{first};
 ghost use Rattle.refusals.specs.Declarations.{declares};
@@ -18,6 +21,7 @@ use meanings::declaring::Declaration;
 use names::Sought;
 use noting::laying;
 use refusals::Verdict;
+use text::Name;
 
 // What an item before the modes breaks: the module's name, a section, a constant, a sensor, an actuator, a task's name, its input, its output, or its end.
 pub(crate) fn declaration_rules(s: &[u8], cells: &[usize], n: usize, row: &[usize; 16]) -> Verdict
@@ -94,15 +98,11 @@ pub(crate) fn entered(s: &[u8], cells: &mut [usize], n: usize, row: &[usize; 16]
     laying::entered(s, cells, n, declaration)
 }
 
-// The table with the mode that begins, where one does; the number of its rows then.
-pub(crate) fn mode_entered(s: &[u8], cells: &mut [usize], n: usize, row: &[usize; 16]) -> usize
-    ensures { λ r. ⌜ (Indexed (now (s .entry)) (now (cells .entry)) → 8 < getD (now (row .entry)) 0 0 → Enters (now (s .entry)) (now (cells .entry)) n (itemOf (fieldsIn (now (row .entry)))) (now (cells .exit)) r) ⌝ }
+// The table with the mode of this name; the number of its rows then.
+pub(crate) fn mode_entered(s: &[u8], cells: &mut [usize], n: usize, name: Name) -> usize
+    ensures { λ r. ⌜ (Indexed (now (s .entry)) (now (cells .entry)) → (start : Bool) (at : ℕ) (digits : Name) (milli : Bool) → Enters (now (s .entry)) (now (cells .entry)) n (ModeBegin start at name digits milli) (now (cells .exit)) r) ⌝ }
 {
-    if row[0] == 9 {
-        let name = kept::first_name(row);
-        let modes = names::count(cells, n, Sought::Sort(4));
-        let mode = declaring::row_of(name, 0, 4, 2, modes);
-        return names::declare(s, cells, n, mode);
-    }
-    n
+    let modes = names::count(cells, n, Sought::Sort(4));
+    let mode = declaring::row_of(name, 0, 4, 2, modes);
+    names::declare(s, cells, n, mode)
 }

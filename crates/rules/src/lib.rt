@@ -16,10 +16,12 @@ use refusals::Verdict;
 mod acting;
 mod declaring;
 
-// A turn of the pass: the answer and the number of names, or what is known at the next item.
-enum Turn {
-    Stop { verdict: Verdict, rows: usize },
-    On { rows: usize, known: Known },
+// A turn of the pass: whether it goes on, what its item breaks, the number of names, and what is known at the next item.
+pub(crate) struct Turn {
+    pub(crate) on: bool,
+    pub(crate) verdict: Verdict,
+    pub(crate) rows: usize,
+    pub(crate) known: Known,
 }
 
 // The answer of the pass: what the text breaks, and how many names it declares.
@@ -47,16 +49,10 @@ fn declaration_step(
 {
     let verdict = declaring::declaration_rules(s, cells, n, row);
     let Verdict::Fine = verdict else {
-        return Turn::Stop {
-            verdict: verdict,
-            rows: n,
-        };
+        return acting::stopped(n, verdict, known);
     };
     let rows = declaring::entered(s, cells, n, row);
-    Turn::On {
-        rows: rows,
-        known: known,
-    }
+    acting::turned(rows, Verdict::Fine, known)
 }
 
 // Item k, whose row this is: it is judged, and where it breaks nothing, what it declares and does is entered.
@@ -77,41 +73,25 @@ fn step<'a>(
     ensures { λ r. ⌜ (Kept (now (s .entry)) (now (memo .entry)) → readOf (now (row .entry)) ≡ itemAt (now (s .entry)) (stateOf state) at → Going (now (s .entry)) (stateOf state) at (now (cells .entry)) n known (now (rates .entry)) (now (tasks .entry)) (now (aims .entry))
         → Turned (now (s .entry)) at (readOf (now (row .entry))) r (now (cells .exit)) (now (rates .exit)) (now (tasks .exit)) (now (aims .exit))) ⌝ }
 {
-    if row[0] < 9 {
-        return declaration_step(s, cells, n, known, row);
-    }
-    let acted = acting::act(
-        s,
-        memo,
-        k,
-        cells,
-        n,
-        rates,
-        tasks,
-        aims,
-        state,
-        at,
-        known,
-        row,
-    );
-    let broken = acted.verdict;
-    let Verdict::Fine = broken else {
-        return Turn::Stop {
-            verdict: broken,
-            rows: n,
-        };
-    };
-    if row[0] < 19 {
-        let rows = declaring::mode_entered(s, cells, n, row);
-        let next = acted.known;
-        return Turn::On {
-            rows: rows,
-            known: next,
-        };
-    }
-    Turn::Stop {
-        verdict: Verdict::Fine,
-        rows: n,
+    let kind = row[0];
+    match kind {
+        9 => acting::begun(s, cells, n, known, row),
+        10 => acting::headed(s, rates, n, known, row),
+        11 => acting::guarded(s, n, known, row),
+        12 => acting::operated(s, cells, n, known, row),
+        13 => acting::invoked(s, cells, n, rates, tasks, known, row),
+        14 => acting::argued(s, cells, n, known, row),
+        15 => acting::updated(s, cells, n, aims, known, row),
+        16 => acting::switched(s, memo, k, cells, n, state, at, known, row),
+        17 => acting::turned(n, Verdict::Fine, known),
+        18 => acting::turned(n, Verdict::Fine, known),
+        19 => acting::ended(n, known, s.len()),
+        _ => {
+            if kind < 9 {
+                return declaration_step(s, cells, n, known, row);
+            }
+            acting::stopped(n, Verdict::Fine, known)
+        }
     }
 }
 
@@ -149,31 +129,25 @@ fn fold<'a>(
             known,
             &row,
         );
-        match turn {
-            Turn::Stop {
+        if !turn.on {
+            let answer = turn.verdict;
+            return Outcome {
                 verdict: answer,
-                rows,
-            } => {
-                return Outcome {
-                    verdict: answer,
-                    rows: rows,
-                };
-            }
-            Turn::On { rows, known: more } => {
-                let next = row[4];
-                if next <= at {
-                    return Outcome {
-                        verdict: Verdict::Fine,
-                        rows: rows,
-                    };
-                }
-                state = row[3];
-                at = next;
-                n = rows;
-                known = more;
-                k = std::num::wrapping_add_usize(k, 1);
-            }
+                rows: turn.rows,
+            };
         }
+        let next = row[4];
+        if next <= at {
+            return Outcome {
+                verdict: Verdict::Fine,
+                rows: turn.rows,
+            };
+        }
+        state = row[3];
+        at = next;
+        n = turn.rows;
+        known = turn.known;
+        k = std::num::wrapping_add_usize(k, 1);
     }
     Outcome {
         verdict: Verdict::Fine,

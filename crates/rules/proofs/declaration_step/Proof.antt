@@ -21,16 +21,22 @@ enum-told c = search needs
 enum-told-2 : tie.Need-enum-told-2
 enum-told-2 c = search needs
 
+stopped-requires : tie.Need-stopped-requires
+stopped-requires c κs = search needs
+
 same-length : tie.Need-same-length
 same-length c = search needs
 
 returns : tie.Need-returns
 returns c = λ h state at rates tasks aims p g.
-    let judged = c .before .before .declaration-rules .ensures (rowed-index (g .rowed)) h _ _ (g .rowed .same) in
-    goes-out g _ p _ judged (ap isFine (c .enum-told2 .given .1))
+    let judged = c .before .before .before .declaration-rules .ensures (rowed-index (g .rowed)) h _ _ (g .rowed .same) in
+    rw (c .stopped .ensures) (goes-out g _ p _ judged (ap isFine (c .before .enum-told2 .given .1)))
 
 entered-requires : tie.Need-entered-requires
 entered-requires c κs = search needs
+
+turned-requires : tie.Need-turned-requires
+turned-requires c κs = search needs
 
 same-length-2 : tie.Need-same-length-2
 same-length-2 c = search needs
@@ -38,9 +44,9 @@ same-length-2 c = search needs
 returns-2 : tie.Need-returns-2
 returns-2 c = λ h state at rates tasks aims p g.
     let ix = rowed-index (g .rowed) in
-    let fine = sym (c .before .before .before .before .before .before .declaration-rules .ensures ix h _ _ (g .rowed .same)) ∙ c .before .before .before .before .enum-told .given .1 in
-    let row = now (c .before .before .before .before .before .before .before .before .before .before .args .row) in
-    goes-on g (readOf row) p (laid-nothing _ _ _ rates tasks aims _ (declaration-quiet row h)) fine (kind-goes row (omega (arith, h))) (c .before .before .entered .ensures ix h) (declaration-noted row _ _ _ h)
+    let fine = sym (c .before .before .before .before .before .before .before .declaration-rules .ensures ix h _ _ (g .rowed .same)) ∙ c .before .before .before .before .before .enum-told .given .1 in
+    let row = now (c .before .before .before .before .before .before .before .before .before .before .before .args .row) in
+    rw (c .turned .ensures) (goes-on g (readOf row) p (laid-nothing _ _ _ rates tasks aims _ (declaration-quiet row h)) fine (kind-goes row (omega (arith, h))) (c .before .before .before .entered .ensures ix h) (declaration-noted row _ _ _ h))
 
 pub declaration-step-spec : {M : Type 1} → statement M
 declaration-step-spec =
@@ -49,8 +55,10 @@ declaration-step-spec =
     declaration-rules-requires
     enum-told
     enum-told-2
+    stopped-requires
     same-length
     returns
     entered-requires
+    turned-requires
     same-length-2
     returns-2)

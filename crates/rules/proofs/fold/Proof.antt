@@ -5,6 +5,7 @@ use Prim.Native.Nat.{_+_, _-_}
 use lib.ListN.{length}
 use Rattle.kept.specs.Kept.{Kept}
 use Rattle.kept.specs.Rows.{stateOf}
+use borrow.Author.Tests.{not-true, not-false}
 use borrow.Author.Needs.{needs}
 use Rattle.rules.proofs.fold.Statement.{statement}
 use Rattle.rules.proofs.fold.Tie as tie
@@ -30,46 +31,40 @@ fetch-requires c κs = search needs
 step-requires : tie.Need-step-requires Inv-loop μ-loop
 step-requires c κs = search needs
 
-enum-known-turn : tie.Need-enum-known-turn Inv-loop μ-loop
-enum-known-turn c = search needs
-
 same-length : tie.Need-same-length Inv-loop μ-loop
-same-length c = omega (arith, c .before .before .before .before .before .before .before .before .before .before .cells .given, c .before .before .before .before .before .before .before .before .before .before .before .before .before .before .before .before .before .before .before .before .loop .inv .0)
+same-length c = omega (arith, c .before .before .before .before .before .before .before .before .before .cells .given, c .before .before .before .before .before .before .before .before .before .before .before .before .before .before .before .before .before .before .before .loop .inv .0)
 
 same-length-2 : tie.Need-same-length-2 Inv-loop μ-loop
-same-length-2 c = omega (arith, c .before .before .before .before .before .before .before .before .rates .given, c .before .before .before .before .before .before .before .before .before .before .before .before .before .before .before .before .before .before .before .before .loop .inv .1)
+same-length-2 c = omega (arith, c .before .before .before .before .before .before .before .rates .given, c .before .before .before .before .before .before .before .before .before .before .before .before .before .before .before .before .before .before .before .loop .inv .1)
 
 same-length-3 : tie.Need-same-length-3 Inv-loop μ-loop
-same-length-3 c = omega (arith, c .before .before .before .before .before .before .tasks .given, c .before .before .before .before .before .before .before .before .before .before .before .before .before .before .before .before .before .before .before .before .loop .inv .2)
+same-length-3 c = omega (arith, c .before .before .before .before .before .tasks .given, c .before .before .before .before .before .before .before .before .before .before .before .before .before .before .before .before .before .before .before .loop .inv .2)
 
 same-length-4 : tie.Need-same-length-4 Inv-loop μ-loop
-same-length-4 c = omega (arith, c .before .before .before .before .aims .given, c .before .before .before .before .before .before .before .before .before .before .before .before .before .before .before .before .before .before .before .before .loop .inv .3)
+same-length-4 c = omega (arith, c .before .before .before .aims .given, c .before .before .before .before .before .before .before .before .before .before .before .before .before .before .before .before .before .before .before .loop .inv .3)
 
 returns : tie.Need-returns Inv-loop μ-loop
-returns c = λ kept. rw (c .before .turn .given .1) at (c .before .before .before .before .before .before .before .before .before .before .before .step .ensures kept (c .before .before .before .before .before .before .before .before .before .before .before .before .before .before .before .before .before .fetch .ensures kept) (c .before .before .before .before .before .before .before .before .before .before .before .before .before .before .before .before .before .before .before .before .loop .inv .4 kept))
-
-enum-known-turn-2 : tie.Need-enum-known-turn-2 Inv-loop μ-loop
-enum-known-turn-2 c = search needs
+returns c = λ kept. rw (not-true (c .before .before .before .before .before .before .before .before .before .before .step .result .on) (c .if1 .taken)) at (c .before .before .before .before .before .before .before .before .before .before .step .ensures kept (c .before .before .before .before .before .before .before .before .before .before .before .before .before .before .before .before .fetch .ensures kept) (c .before .before .before .before .before .before .before .before .before .before .before .before .before .before .before .before .before .before .before .loop .inv .4 kept))
 
 array-read-next : tie.Need-array-read-next Inv-loop μ-loop
 array-read-next c = search needs
 
 same-length-5 : tie.Need-same-length-5 Inv-loop μ-loop
-same-length-5 c = omega (arith, c .before .before .before .before .before .before .before .before .before .before .before .cells .given, c .before .before .before .before .before .before .before .before .before .before .before .before .before .before .before .before .before .before .before .before .before .loop .inv .0)
+same-length-5 c = omega (arith, c .before .before .before .before .before .before .before .before .before .before .cells .given, c .before .before .before .before .before .before .before .before .before .before .before .before .before .before .before .before .before .before .before .before .loop .inv .0)
 
 same-length-6 : tie.Need-same-length-6 Inv-loop μ-loop
-same-length-6 c = omega (arith, c .before .before .before .before .before .before .before .before .before .rates .given, c .before .before .before .before .before .before .before .before .before .before .before .before .before .before .before .before .before .before .before .before .before .loop .inv .1)
+same-length-6 c = omega (arith, c .before .before .before .before .before .before .before .before .rates .given, c .before .before .before .before .before .before .before .before .before .before .before .before .before .before .before .before .before .before .before .before .loop .inv .1)
 
 same-length-7 : tie.Need-same-length-7 Inv-loop μ-loop
-same-length-7 c = omega (arith, c .before .before .before .before .before .before .before .tasks .given, c .before .before .before .before .before .before .before .before .before .before .before .before .before .before .before .before .before .before .before .before .before .loop .inv .2)
+same-length-7 c = omega (arith, c .before .before .before .before .before .before .tasks .given, c .before .before .before .before .before .before .before .before .before .before .before .before .before .before .before .before .before .before .before .before .loop .inv .2)
 
 same-length-8 : tie.Need-same-length-8 Inv-loop μ-loop
-same-length-8 c = omega (arith, c .before .before .before .before .before .aims .given, c .before .before .before .before .before .before .before .before .before .before .before .before .before .before .before .before .before .before .before .before .before .loop .inv .3)
+same-length-8 c = omega (arith, c .before .before .before .before .aims .given, c .before .before .before .before .before .before .before .before .before .before .before .before .before .before .before .before .before .before .before .before .loop .inv .3)
 
 returns-2 : tie.Need-returns-2 Inv-loop μ-loop
 returns-2 c = λ kept.
-    let on = rw (c .before .before .turn2 .given .1) at (c .before .before .before .before .before .before .before .before .before .before .before .before .step .ensures kept (c .before .before .before .before .before .before .before .before .before .before .before .before .before .before .before .before .before .before .fetch .ensures kept) (c .before .before .before .before .before .before .before .before .before .before .before .before .before .before .before .before .before .before .before .before .before .loop .inv .4 kept)) in
-    absurd (omega (arith, on .0, c .if1 .taken))
+    let on = rw (not-false (c .before .before .before .before .before .before .before .before .before .before .before .step .result .on) (c .before .if1 .left)) at (c .before .before .before .before .before .before .before .before .before .before .before .step .ensures kept (c .before .before .before .before .before .before .before .before .before .before .before .before .before .before .before .before .before .fetch .ensures kept) (c .before .before .before .before .before .before .before .before .before .before .before .before .before .before .before .before .before .before .before .before .loop .inv .4 kept)) in
+    absurd (omega (arith, on .0, c .if2 .taken))
 
 array-read-state : tie.Need-array-read-state Inv-loop μ-loop
 array-read-state c = search needs
@@ -78,7 +73,7 @@ wrapping-add-usize-requires : tie.Need-wrapping-add-usize-requires Inv-loop μ-l
 wrapping-add-usize-requires c κs = search needs
 
 loop-less : tie.Need-loop-less Inv-loop μ-loop
-loop-less c = omega (arith, c .before .if1 .left, c .before .before .before .before .before .before .before .before .before .before .before .before .before .before .before .before .before .before .before .before .before .loop-test .taken)
+loop-less c = omega (arith, c .before .before .if2 .left, c .before .before .before .before .before .before .before .before .before .before .before .before .before .before .before .before .before .before .before .before .before .loop-test .taken)
 
 loop-again : tie.Need-loop-again Inv-loop μ-loop
 loop-again c = (
@@ -86,7 +81,7 @@ loop-again c = (
   omega (arith, c .before .before .before .before .before .before .before .before .before .before .rates .given, c .before .before .before .before .before .before .before .before .before .before .before .before .before .before .before .before .before .before .before .before .before .before .loop .inv .1),
   omega (arith, c .before .before .before .before .before .before .before .before .tasks .given, c .before .before .before .before .before .before .before .before .before .before .before .before .before .before .before .before .before .before .before .before .before .before .loop .inv .2),
   omega (arith, c .before .before .before .before .before .before .aims .given, c .before .before .before .before .before .before .before .before .before .before .before .before .before .before .before .before .before .before .before .before .before .before .loop .inv .3),
-  λ kept. (rw (c .before .before .before .turn2 .given .1) at (c .before .before .before .before .before .before .before .before .before .before .before .before .before .step .ensures kept (c .before .before .before .before .before .before .before .before .before .before .before .before .before .before .before .before .before .before .before .fetch .ensures kept) (c .before .before .before .before .before .before .before .before .before .before .before .before .before .before .before .before .before .before .before .before .before .before .loop .inv .4 kept))) .1,
+  λ kept. (rw (not-false (c .before .before .before .before .before .before .before .before .before .before .before .before .before .step .result .on) (c .before .before .before .if1 .left)) at (c .before .before .before .before .before .before .before .before .before .before .before .before .before .step .ensures kept (c .before .before .before .before .before .before .before .before .before .before .before .before .before .before .before .before .before .before .before .fetch .ensures kept) (c .before .before .before .before .before .before .before .before .before .before .before .before .before .before .before .before .before .before .before .before .before .before .loop .inv .4 kept))) .1,
 )
 
 same-length-9 : tie.Need-same-length-9 Inv-loop μ-loop
@@ -114,13 +109,11 @@ fold-spec =
     loop-holds
     fetch-requires
     step-requires
-    enum-known-turn
     same-length
     same-length-2
     same-length-3
     same-length-4
     returns
-    enum-known-turn-2
     array-read-next
     same-length-5
     same-length-6
