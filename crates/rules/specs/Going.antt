@@ -26,10 +26,10 @@ use Rattle.refusals.specs.Texts.{declaredBy, verdictOf}
 use Rattle.accepted.specs.Steps.{Comes, item-comes}
 use Rattle.accepted.specs.RowsFit.{RowsFit, fitting}
 use Rattle.names.specs.Tables.{rowsIn}
-use Rattle.names.specs.Index.{emptyTable, tableIn}
+use Rattle.names.specs.Index.{emptyTable, tableIn, Declared}
 use Rattle.meanings.specs.Held.{rowsOf, heldRow}
 use Rattle.meanings.specs.declared.declaring.Declaration.{Declaration}
-use Rattle.meanings.specs.declared.declaring.Declaration.the-variants.{Nothing}
+use Rattle.meanings.specs.declared.declaring.Declaration.the-variants.{Nothing, One}
 use Rattle.noting.specs.declared.Known.{Known}
 use Rattle.noting.specs.Known.{nothingKnown, notedBy}
 use Rattle.noting.specs.Laying.{Laid, Entered}
@@ -108,6 +108,28 @@ told-plain {n = n} e q =
       broken = λ f. (refl, refl);
       entered = λ f. record { declaration = Nothing; declared = rw q; entered = (refl, refl) };
     }
+
+module _ {s cells : List ℕ} {n : ℕ} {item : Item} {verdict : Verdict} {next : Known} {turn : Turn} where
+  -- what breaks a rule declares nothing
+  pub told-broken : isFine verdict ≡ false → turn ≡ stopOf n verdict next → Told s cells n item verdict next turn cells
+  told-broken f e =
+      record {
+        count = n;
+        tells = e ∙ rw f;
+        broken = λ g. (refl, refl);
+        entered = λ fine. let z : _≡_ {A = ℕ} 0 1 = cc (sym (ap isFine fine) ∙ f) in absurd (omega arith);
+      }
+
+  -- what breaks none enters what it declares
+  pub told-new : {row : Row} {cellsThen : List ℕ} → verdict ≡ Fine → turn ≡ turnOf (turn .rows) Fine next → Declared s cells n row cellsThen (turn .rows) → rowsOf (One row) ≡ map heldRow (declares s (rowsIn cells n) item)
+      → Told s cells n item verdict next turn cellsThen
+  told-new {row} fine e d q =
+      record {
+        count = turn .rows;
+        tells = e ∙ rw fine;
+        broken = λ f. let z : _≡_ {A = ℕ} 0 1 = cc (sym (ap isFine fine) ∙ f) in absurd (omega arith);
+        entered = λ f. record { declaration = One row; declared = q; entered = d };
+      }
 
 -- the table without names, and arrays for the activities of a mode
 pub record Spread (cells rates tasks aims : List ℕ) : Type 0 where

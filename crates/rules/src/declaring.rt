@@ -1,101 +1,167 @@
-// A declaration: what it breaks, and the name that it enters.
+// The items before the modes: what each breaks, and the name that it enters.
 ghost use mathlib.Core.Path.{_≡_};
-ghost use mathlib.Core.List.{List, map};
 ghost use mathlib.Core.Bool.{Bool};
-ghost use Prim.Native.Nat.{ℕ, _<_};
-ghost use lib.ListN.{getD};
+ghost use mathlib.Core.List.{[], _∷_, _++_};
+ghost use Prim.Native.Nat.{ℕ};
 ghost use Rattle.text.specs.declared.Name.{Name};
-ghost use Rattle.text.specs.declared.Item.the-variants.{ModeBegin};
-ghost use Rattle.refusals.specs.declared.Row.{Row};
+ghost use Rattle.text.specs.declared.Item.the-variants.{Constant, Sensor, Actuator, TaskBegin, Input, Output, ModeBegin};
+ghost use Rattle.refusals.specs.declared.Verdict.the-variants.{Fine};
 ghost use Rattle.refusals.specs.Checks.{first};
-ghost use Rattle.refusals.specs.Declarations.{declares};
-ghost use Rattle.refusals.specs.Rules.{Env, rules};
-ghost use Rattle.kept.specs.Rows.{itemOf, fieldsIn};
-ghost use Rattle.names.specs.Index.{Indexed};
+ghost use Rattle.refusals.specs.Names.{noType};
+ghost use Rattle.refusals.specs.Refusals.{longName};
+ghost use Rattle.refusals.specs.Values.{typeNamed, typeRules, valueRules};
+ghost use Rattle.refusals.specs.Declarations.{newRules, newPortRules};
+ghost use Rattle.kept.specs.Rows.{nameAt, literalAt};
+ghost use Rattle.names.specs.Index.{Indexed, Declared};
 ghost use Rattle.names.specs.Tables.{rowsIn};
-ghost use Rattle.meanings.specs.Held.{rowsOf, heldRow};
-ghost use Rattle.rules.specs.Going.{Enters};
+ghost use Rattle.rules.specs.Going.{turnOf, Enters, Told};
+use super::Turn;
+use super::acting;
 use judging::declarations;
 use meanings::declaring;
-use meanings::declaring::Declaration;
 use names::Sought;
-use noting::laying;
+use noting::Known;
+use refusals::Row;
 use refusals::Verdict;
 use text::Name;
 
-// What an item before the modes breaks: the module's name, a section, a constant, a sensor, an actuator, a task's name, its input, its output, or its end.
-pub(crate) fn declaration_rules(s: &[u8], cells: &[usize], n: usize, row: &[usize; 16]) -> Verdict
-    ensures { λ r. ⌜ (Indexed (now (s .entry)) (now (cells .entry)) → getD (now (row .entry)) 0 0 < 9 → (all : List Row) (env : Env) → rowsIn (now (cells .entry)) n ≡ env .rows → r ≡ first (rules (now (s .entry)) all env (itemOf (fieldsIn (now (row .entry)))))) ⌝ }
+// An item of which only its name is judged.
+pub(crate) fn called(n: usize, known: Known, row: &[usize; 16]) -> Turn
+    ensures { λ r. ⌜ r ≡ turnOf n (first (longName (nameAt (now (row .entry)) 5) ∷ [])) known ⌝ }
 {
-    let kind = row[0];
-    let first = kept::first_name(row);
-    let second = kept::second_name(row);
-    match kind {
-        0 => judging::name_rules(first),
-        1 => Verdict::Fine,
-        2 => {
-            let value = kept::first_value(row);
-            declarations::constant_rules(s, cells, n, first, value)
-        }
-        3 => {
-            let getter = kept::third_name(row);
-            declarations::sensor_rules(s, cells, n, first, second, getter)
-        }
-        4 => {
-            let value = kept::second_value(row);
-            let setter = kept::last_name(row);
-            declarations::actuator_rules(s, cells, n, first, second, value, setter)
-        }
-        5 => declarations::new_rules(s, cells, n, 3, first),
-        6 => declarations::input_rules(s, cells, n, first, second),
-        7 => {
-            let value = kept::second_value(row);
-            declarations::output_rules(s, cells, n, first, second, value)
-        }
-        _ => judging::name_rules(first),
-    }
+    let name = kept::first_name(row);
+    let verdict = judging::name_rules(name);
+    acting::turned(n, verdict, known)
 }
 
-// What an item before the modes declares.
-fn declared(s: &[u8], cells: &[usize], n: usize, row: &[usize; 16]) -> Declaration
-    ensures { λ r. ⌜ (Indexed (now (s .entry)) (now (cells .entry)) → getD (now (row .entry)) 0 0 < 9 → rowsOf r ≡ map heldRow (declares (now (s .entry)) (rowsIn (now (cells .entry)) n) (itemOf (fieldsIn (now (row .entry)))))) ⌝ }
+// The turn of an item that breaks nothing and declares this.
+fn entered(s: &[u8], cells: &mut [usize], n: usize, known: Known, row: Row) -> Turn
+    ensures { λ r. ⌜ (r ≡ turnOf (r .rows) Fine known) × Declared (now (s .entry)) (now (cells .entry)) n row (now (cells .exit)) (r .rows) ⌝ }
 {
-    let kind = row[0];
-    let first = kept::first_name(row);
-    let second = kept::second_name(row);
-    match kind {
-        0 => Declaration::Nothing,
-        1 => Declaration::Nothing,
-        2 => {
-            let value = kept::first_value(row);
-            let typ = meanings::literal_type(s, cells, n, value);
-            let word = meanings::literal_word(s, cells, n, value);
-            Declaration::One(declaring::row_of(first, 0, 0, typ, word))
-        }
-        3 => Declaration::One(declaring::port_row(s, cells, n, first, second, 0, 1)),
-        4 => Declaration::One(declaring::port_row(s, cells, n, first, second, 0, 2)),
-        5 => {
-            let tasks = names::count(cells, n, Sought::Sort(3));
-            Declaration::One(declaring::row_of(first, 0, 3, 2, tasks))
-        }
-        6 => {
-            let tasks = names::count(cells, n, Sought::Sort(3));
-            Declaration::One(declaring::port_row(s, cells, n, first, second, tasks, 5))
-        }
-        7 => {
-            let tasks = names::count(cells, n, Sought::Sort(3));
-            Declaration::One(declaring::port_row(s, cells, n, first, second, tasks, 6))
-        }
-        _ => Declaration::Nothing,
-    }
+    let rows = names::declare(s, cells, n, row);
+    acting::turned(rows, Verdict::Fine, known)
 }
 
-// The table with what an item before the modes declares; the number of its rows then.
-pub(crate) fn entered(s: &[u8], cells: &mut [usize], n: usize, row: &[usize; 16]) -> usize
-    ensures { λ r. ⌜ (Indexed (now (s .entry)) (now (cells .entry)) → getD (now (row .entry)) 0 0 < 9 → Enters (now (s .entry)) (now (cells .entry)) n (itemOf (fieldsIn (now (row .entry)))) (now (cells .exit)) r) ⌝ }
+// A constant.
+pub(crate) fn constant(
+    s: &[u8],
+    cells: &mut [usize],
+    n: usize,
+    known: Known,
+    row: &[usize; 16],
+) -> Turn
+    ensures { λ r. ⌜ (Indexed (now (s .entry)) (now (cells .entry)) → Told (now (s .entry)) (now (cells .entry)) n (Constant (nameAt (now (row .entry)) 5) (literalAt (now (row .entry)) 7)) (first (newRules (now (s .entry)) (rowsIn (now (cells .entry)) n) 0 (nameAt (now (row .entry)) 5) ++ valueRules (now (s .entry)) (rowsIn (now (cells .entry)) n) noType (literalAt (now (row .entry)) 7))) known r (now (cells .exit))) ⌝ }
 {
-    let declaration = declared(s, cells, n, row);
-    laying::entered(s, cells, n, declaration)
+    let name = kept::first_name(row);
+    let value = kept::first_value(row);
+    let verdict = declarations::constant_rules(s, cells, n, name, value);
+    let Verdict::Fine = verdict else {
+        return acting::stopped(n, verdict, known);
+    };
+    let typ = meanings::literal_type(s, cells, n, value);
+    let word = meanings::literal_word(s, cells, n, value);
+    let constant = declaring::row_of(name, 0, 0, typ, word);
+    entered(s, cells, n, known, constant)
+}
+
+// A sensor.
+pub(crate) fn sensor(
+    s: &[u8],
+    cells: &mut [usize],
+    n: usize,
+    known: Known,
+    row: &[usize; 16],
+) -> Turn
+    ensures { λ r. ⌜ (Indexed (now (s .entry)) (now (cells .entry)) → Told (now (s .entry)) (now (cells .entry)) n (Sensor (nameAt (now (row .entry)) 5) (nameAt (now (row .entry)) 7) (nameAt (now (row .entry)) 9)) (first (typeRules (now (s .entry)) (nameAt (now (row .entry)) 5) ++ (newRules (now (s .entry)) (rowsIn (now (cells .entry)) n) 1 (nameAt (now (row .entry)) 7) ++ (longName (nameAt (now (row .entry)) 9) ∷ [])))) known r (now (cells .exit))) ⌝ }
+{
+    let typ = kept::first_name(row);
+    let name = kept::second_name(row);
+    let getter = kept::third_name(row);
+    let verdict = declarations::sensor_rules(s, cells, n, typ, name, getter);
+    let Verdict::Fine = verdict else {
+        return acting::stopped(n, verdict, known);
+    };
+    let port = declaring::port_row(s, cells, n, typ, name, 0, 1);
+    entered(s, cells, n, known, port)
+}
+
+// An actuator.
+pub(crate) fn actuator(
+    s: &[u8],
+    cells: &mut [usize],
+    n: usize,
+    known: Known,
+    row: &[usize; 16],
+) -> Turn
+    ensures { λ r. ⌜ (Indexed (now (s .entry)) (now (cells .entry)) → Told (now (s .entry)) (now (cells .entry)) n (Actuator (nameAt (now (row .entry)) 5) (nameAt (now (row .entry)) 7) (literalAt (now (row .entry)) 9) (nameAt (now (row .entry)) 14)) (first (typeRules (now (s .entry)) (nameAt (now (row .entry)) 5) ++ (newRules (now (s .entry)) (rowsIn (now (cells .entry)) n) 2 (nameAt (now (row .entry)) 7) ++ (valueRules (now (s .entry)) (rowsIn (now (cells .entry)) n) (typeNamed (now (s .entry)) (nameAt (now (row .entry)) 5)) (literalAt (now (row .entry)) 9) ++ (longName (nameAt (now (row .entry)) 14) ∷ []))))) known r (now (cells .exit))) ⌝ }
+{
+    let typ = kept::first_name(row);
+    let name = kept::second_name(row);
+    let value = kept::second_value(row);
+    let setter = kept::last_name(row);
+    let verdict = declarations::actuator_rules(s, cells, n, typ, name, value, setter);
+    let Verdict::Fine = verdict else {
+        return acting::stopped(n, verdict, known);
+    };
+    let port = declaring::port_row(s, cells, n, typ, name, 0, 2);
+    entered(s, cells, n, known, port)
+}
+
+// A task begins.
+pub(crate) fn task(s: &[u8], cells: &mut [usize], n: usize, known: Known, row: &[usize; 16]) -> Turn
+    ensures { λ r. ⌜ (Indexed (now (s .entry)) (now (cells .entry)) → Told (now (s .entry)) (now (cells .entry)) n (TaskBegin (nameAt (now (row .entry)) 5)) (first (newRules (now (s .entry)) (rowsIn (now (cells .entry)) n) 3 (nameAt (now (row .entry)) 5))) known r (now (cells .exit))) ⌝ }
+{
+    let name = kept::first_name(row);
+    let verdict = declarations::new_rules(s, cells, n, 3, name);
+    let Verdict::Fine = verdict else {
+        return acting::stopped(n, verdict, known);
+    };
+    let tasks = names::count(cells, n, Sought::Sort(3));
+    let task = declaring::row_of(name, 0, 3, 2, tasks);
+    entered(s, cells, n, known, task)
+}
+
+// An input of a task.
+pub(crate) fn input(
+    s: &[u8],
+    cells: &mut [usize],
+    n: usize,
+    known: Known,
+    row: &[usize; 16],
+) -> Turn
+    ensures { λ r. ⌜ (Indexed (now (s .entry)) (now (cells .entry)) → Told (now (s .entry)) (now (cells .entry)) n (Input (nameAt (now (row .entry)) 5) (nameAt (now (row .entry)) 7)) (first (typeRules (now (s .entry)) (nameAt (now (row .entry)) 5) ++ newPortRules (now (s .entry)) (rowsIn (now (cells .entry)) n) 5 (nameAt (now (row .entry)) 7))) known r (now (cells .exit))) ⌝ }
+{
+    let typ = kept::first_name(row);
+    let name = kept::second_name(row);
+    let verdict = declarations::input_rules(s, cells, n, typ, name);
+    let Verdict::Fine = verdict else {
+        return acting::stopped(n, verdict, known);
+    };
+    let tasks = names::count(cells, n, Sought::Sort(3));
+    let port = declaring::port_row(s, cells, n, typ, name, tasks, 5);
+    entered(s, cells, n, known, port)
+}
+
+// An output of a task.
+pub(crate) fn output(
+    s: &[u8],
+    cells: &mut [usize],
+    n: usize,
+    known: Known,
+    row: &[usize; 16],
+) -> Turn
+    ensures { λ r. ⌜ (Indexed (now (s .entry)) (now (cells .entry)) → Told (now (s .entry)) (now (cells .entry)) n (Output (nameAt (now (row .entry)) 5) (nameAt (now (row .entry)) 7) (literalAt (now (row .entry)) 9)) (first (typeRules (now (s .entry)) (nameAt (now (row .entry)) 5) ++ (newPortRules (now (s .entry)) (rowsIn (now (cells .entry)) n) 6 (nameAt (now (row .entry)) 7) ++ valueRules (now (s .entry)) (rowsIn (now (cells .entry)) n) (typeNamed (now (s .entry)) (nameAt (now (row .entry)) 5)) (literalAt (now (row .entry)) 9)))) known r (now (cells .exit))) ⌝ }
+{
+    let typ = kept::first_name(row);
+    let name = kept::second_name(row);
+    let value = kept::second_value(row);
+    let verdict = declarations::output_rules(s, cells, n, typ, name, value);
+    let Verdict::Fine = verdict else {
+        return acting::stopped(n, verdict, known);
+    };
+    let tasks = names::count(cells, n, Sought::Sort(3));
+    let port = declaring::port_row(s, cells, n, typ, name, tasks, 6);
+    entered(s, cells, n, known, port)
 }
 
 // The table with the mode of this name; the number of its rows then.

@@ -36,7 +36,7 @@ pub struct Judged {
     pub rows: usize,
 }
 
-// An item before the modes: it is judged, and where it breaks nothing, what it declares is entered.
+// An item before the modes, by its kind: the module's name, a section, a constant, a sensor, an actuator, a task's name, its input, its output, or its end.
 fn declaration_step(
     s: &[u8],
     cells: &mut [usize],
@@ -47,12 +47,18 @@ fn declaration_step(
     ensures { λ r. ⌜ (getD (now (row .entry)) 0 0 < 9 → (state : State) (at : ℕ) (rates tasks aims : List ℕ) → readOf (now (row .entry)) ≡ itemAt (now (s .entry)) state at → Going (now (s .entry)) state at (now (cells .entry)) n known rates tasks aims
         → Turned (now (s .entry)) at (readOf (now (row .entry))) r (now (cells .exit)) rates tasks aims) ⌝ }
 {
-    let verdict = declaring::declaration_rules(s, cells, n, row);
-    let Verdict::Fine = verdict else {
-        return acting::stopped(n, verdict, known);
-    };
-    let rows = declaring::entered(s, cells, n, row);
-    acting::turned(rows, Verdict::Fine, known)
+    let kind = row[0];
+    match kind {
+        0 => declaring::called(n, known, row),
+        1 => acting::turned(n, Verdict::Fine, known),
+        2 => declaring::constant(s, cells, n, known, row),
+        3 => declaring::sensor(s, cells, n, known, row),
+        4 => declaring::actuator(s, cells, n, known, row),
+        5 => declaring::task(s, cells, n, known, row),
+        6 => declaring::input(s, cells, n, known, row),
+        7 => declaring::output(s, cells, n, known, row),
+        _ => declaring::called(n, known, row),
+    }
 }
 
 // Item k, whose row this is: it is judged, and where it breaks nothing, what it declares and does is entered.

@@ -4,30 +4,30 @@ use denote.Ref.{now}
 use lib.ListN.{length, take, drop, length-take}
 use lib.Seq.{getD-take}
 use Rattle.refusals.specs.Refusals.{among}
-use Rattle.refusals.specs.Twice.{twiceOf, twiceFrom}
+use Rattle.refusals.specs.Twice.{twiceFrom}
 use Rattle.refusals.specs.Twice as law
 use borrow.Author.Needs.{needs}
 use native.Mathlib.Omega.{arith}
-use Rattle.activities.proofs.acts.twice.Statement.{statement}
-use Rattle.activities.proofs.acts.twice.Tie as tie
+use Rattle.activities.proofs.acts.twice_from.Statement.{statement}
+use Rattle.activities.proofs.acts.twice_from.Tie as tie
 
 abbrev Inv-loop : tie.InvT-loop
-Inv-loop numbers n count j second i₀ i = (i ≤ j) × (among second (take j (take n numbers)) ≡ among second (drop i (take j (take n numbers))))
+Inv-loop numbers n from count j second i₀ i = (i ≤ j) × (among second (take j (take n numbers)) ≡ among second (drop i (take j (take n numbers))))
 
 abbrev μ-loop : tie.MeasureT-loop
-μ-loop numbers n count j second i₀ i = j - i
+μ-loop numbers n from count j second i₀ i = j - i
 
 abbrev Inv-pairs : tie.InvT-pairs
-Inv-pairs numbers n count j₀ j = (j ≤ count) × (twiceOf (take n numbers) ≡ twiceFrom (take n numbers) j)
+Inv-pairs numbers n from count j₀ j = twiceFrom (take n numbers) from ≡ twiceFrom (take n numbers) j
 
 abbrev μ-pairs : tie.MeasureT-pairs
-μ-pairs numbers n count j₀ j = count - j
+μ-pairs numbers n from count j₀ j = count - j
 
 least-requires : tie.Need-least-requires Inv-loop μ-loop Inv-pairs μ-pairs
 least-requires c κs = search needs
 
 pairs-holds : tie.Need-pairs-holds Inv-loop μ-loop Inv-pairs μ-pairs
-pairs-holds c = (omega arith, refl)
+pairs-holds c = refl
 
 mul-second : tie.Need-mul-second Inv-loop μ-loop Inv-pairs μ-pairs
 mul-second c = search needs
@@ -66,24 +66,23 @@ pairs-again c = let args = (c .before .before .before .before .before .before .b
     let whole = take (args .n) (now (args .numbers)) in
     let size : length whole ≡ min (args .n) (length (now (args .numbers))) = length-take (args .n) (now (args .numbers)) in
     let none = (c .before .loop .inv .1) ∙ law.among-end _ whole (c .before .before .before .before .pairs .j) (c .before .loop .i) (omega arith) (c .loop-test .left) in
-    (omega arith, (c .before .before .before .before .pairs .inv .1) ∙ law.twice-on whole (c .before .before .before .before .pairs .j) (omega arith) (rw (getD-take (args .n) (now (args .numbers)) (c .before .before .before .before .pairs .j) 0 (omega arith)) none))
+    (c .before .before .before .before .pairs .inv) ∙ law.twice-on whole (c .before .before .before .before .pairs .j) (omega arith) (rw (getD-take (args .n) (now (args .numbers)) (c .before .before .before .before .pairs .j) 0 (omega arith)) none)
 
 returns : tie.Need-returns Inv-loop μ-loop Inv-pairs μ-pairs
 returns c = let args = (c .before .before .before .before .args) in
     let whole = take (args .n) (now (args .numbers)) in
     let size : length whole ≡ min (args .n) (length (now (args .numbers))) = length-take (args .n) (now (args .numbers)) in
-    let last : (c .before .pairs .j) ≡ (c .before .before .least .result) = omega arith in
-    sym ((c .before .pairs .inv .1) ∙ law.twice-end whole (c .before .pairs .j) (omega arith) ∙ last)
+    sym ((c .before .pairs .inv) ∙ law.twice-end whole (c .before .pairs .j) (omega arith))
 
 returns-2 : tie.Need-returns-2 Inv-loop μ-loop Inv-pairs μ-pairs
 returns-2 c = let args = (c .before .before .before .before .before .before .before .before .before .args) in
     let whole = take (args .n) (now (args .numbers)) in
     let size : length whole ≡ min (args .n) (length (now (args .numbers))) = length-take (args .n) (now (args .numbers)) in
     let found = (c .before .before .before .loop .inv .1) ∙ law.among-out _ whole (c .before .before .before .before .before .before .pairs .j) (c .before .before .before .loop .i) (omega arith) (c .before .before .loop-test .taken) (getD-take (args .n) (now (args .numbers)) (c .before .before .before .loop .i) 0 (omega arith) ∙ (c .if2 .taken)) in
-    sym ((c .before .before .before .before .before .before .pairs .inv .1) ∙ law.twice-out whole (c .before .before .before .before .before .before .pairs .j) (omega arith) (rw (getD-take (args .n) (now (args .numbers)) (c .before .before .before .before .before .before .pairs .j) 0 (omega arith)) found))
+    sym ((c .before .before .before .before .before .before .pairs .inv) ∙ law.twice-out whole (c .before .before .before .before .before .before .pairs .j) (omega arith) (rw (getD-take (args .n) (now (args .numbers)) (c .before .before .before .before .before .before .pairs .j) 0 (omega arith)) found))
 
-pub twice-spec : {M : Type 1} → statement M
-twice-spec =
+pub twice-from-spec : {M : Type 1} → statement M
+twice-from-spec =
     tie.close
     (tie.spec
     Inv-loop
