@@ -6,7 +6,7 @@ use mathlib.Core.Bool.{not, cond}
 use mathlib.Core.List.{List}
 use lib.Dec.{eqb, ltb}
 use lib.ListN.{getD}
-use borrow.Author.Tests.{lt-ltb, le-ltb, ne-eqb}
+use borrow.Author.Tests.{lt-ltb}
 use Rattle.text.specs.declared.Item.{Item}
 use Rattle.text.specs.Items.{goes}
 use Rattle.kept.specs.Rows.{fieldsIn, itemOf}
@@ -15,7 +15,7 @@ use Rattle.build.specs.Walks.{declaring}
 
 -- names are declared by the kinds 2 to 7, and 9
 abbrev declaringBy : ℕ → ℕ
-declaringBy k = cond (eqb k 9) 1 (cond (ltb k 2) 0 (cond (ltb k 8) 1 0))
+declaringBy k = cond (ltb 9 k) 0 (cond (ltb k 2) 0 (cond (eqb k 8) 0 1))
 
 abbrev Told : ℕ → Item → Type 0
 Told k item = (not (goes item) ≡ ltb 18 k) × (declaring item ≡ declaringBy k)
@@ -44,7 +44,7 @@ module _ (row : List ℕ) where
       (refl, refl)
       (refl, refl)
       (refl, refl)
-      (λ k l. (sym (lt-ltb 18 k (omega arith)), sym (rw (ne-eqb k 9 (λ f. omega arith), le-ltb k 2 (omega arith), le-ltb k 8 (omega arith)))))
+      (λ k l. (sym (lt-ltb 18 k (omega arith)), sym (rw (lt-ltb 9 k (omega arith)))))
 
   pub last-kind : not (goes (itemOf (fieldsIn row))) ≡ ltb 18 (getD row 0 0)
   last-kind = told .0

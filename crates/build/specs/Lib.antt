@@ -1,4 +1,5 @@
 pub mod Walks
+pub mod Lent
 pub mod Along
 pub mod Order
 pub mod Sections

@@ -47,11 +47,14 @@ pub fn declared<'a>(
     let mut at = 0;
     let mut n = 0;
     let mut k = 0;
+    let mut kind = 0;
     let mut ports = nothing();
     while at <= s.len() {
-        let reached = kept::state_of(state);
-        if ports::late(reached) {
-            return ports;
+        if kind == 9 {
+            let reached = kept::state_of(state);
+            if ports::late(reached) {
+                return ports;
+            }
         }
         kept::fetch(s, memo, k, state, at, &mut row);
         ports = ports::placed(
@@ -70,13 +73,15 @@ pub fn declared<'a>(
             starts,
             task_rows,
         );
-        if rows::over(&row, at) {
+        kind = row[0];
+        let next = row[4];
+        if rows::over(kind, next, at) {
             return ports;
         }
-        n += rows::declaring(&row);
+        n += rows::declaring(kind);
         k += 1;
         state = row[3];
-        at = row[4];
+        at = next;
     }
     ports
 }
