@@ -50,11 +50,11 @@ zeros n i = by (ltb i n) refl
 
 empty-cell : (i : ℕ) → getD emptyTable i 0 ≡ 0
 unfolding emptyTable
-empty-cell i = zeros 3904 i
+empty-cell i = zeros 4672 i
 
-pub empty-long : length emptyTable ≡ 3904
+pub empty-long : length emptyTable ≡ 4672
 unfolding emptyTable
-empty-long = length-replicate {A = ℕ} 3904 0
+empty-long = length-replicate {A = ℕ} 4672 0
 
 pub empty-none : indexed emptyTable ≡ 0
 empty-none = empty-cell 0
@@ -67,7 +67,7 @@ empty-indexed s =
       linked =
           record {
             heads = λ chain g. rw (empty-none, empty-cell (chain + 256)) (sym (next-none (chainAt s emptyTable) chain 0));
-            tails = λ chain g. rw (empty-none, empty-cell (chain + 384)) (sym (last-none (chainAt s emptyTable) chain));
+            tails = λ chain g. rw (empty-none, empty-cell (chain + 768)) (sym (last-none (chainAt s emptyTable) chain));
             links = λ k g. absurd (omega (arith, empty-none, g));
             keys = λ k g. absurd (omega (arith, empty-none, g));
           };
@@ -101,7 +101,7 @@ table-more s rows row =
 -- ---- the array holds these names, and nothing else
 
 pub record Holding (s : List ℕ) (rows : List Row) (cells : List ℕ) : Type 0 where
-  pub wide : length cells ≡ 3904
+  pub wide : length cells ≡ 4672
   pub size : indexed cells ≡ length rows
   pub same : rowsIn cells (length rows) ≡ rows
   pub index : Indexed s cells

@@ -18,7 +18,7 @@ letter-at : (s : List ℕ) (start end i place : ℕ) → start + i ≡ place →
 letter-at s start end i place e h =
     getD-drop start (take end s) i 0 ∙ rw e (getD-take end s place 0 h)
 
-pub chain-small : (scope : ℕ) (word : List ℕ) → chainOf scope word < 128
+pub chain-small : (scope : ℕ) (word : List ℕ) → chainOf scope word < 512
 unfolding chainOf
 chain-small scope word = omega arith
 
@@ -33,9 +33,9 @@ halved a r e = omega (arith, e)
 joined : (a b c : ℕ) → a % 4294967296 ≡ b % 4294967296 → (a + c) % 4294967296 ≡ (b + c) % 4294967296
 joined a b c e = omega (arith, e)
 
-pub mixed-wraps : (scope key sum all : ℕ) → sum ≡ (key / 274877906944 + key) % 2 ^ 64 → all ≡ (sum + scope) % 2 ^ 64 → all % 4294967296 * 458679423 / 33554432 % 128 ≡ mixed scope key
+pub mixed-wraps : (scope key sum all : ℕ) → sum ≡ (key / 4294967296 + key) % 2 ^ 64 → all ≡ (sum + scope) % 2 ^ 64 → all % 4294967296 * 2654435769 / 8388608 % 512 ≡ mixed scope key
 mixed-wraps scope key sum all e f =
-    let z = halved (sum + scope) all f ∙ joined sum (key / 274877906944 + key) scope (halved (key / 274877906944 + key) sum e) in
+    let z = halved (sum + scope) all f ∙ joined sum (key / 4294967296 + key) scope (halved (key / 4294967296 + key) sum e) in
     rw z
 
 -- names with the same key are of the same chain

@@ -32,9 +32,9 @@ keyOf word =
     (pair word 0 (length word - 4) / 2 + pair word ((length word - 8) / 2) ((length word - 8) / 2 + 4) / 2)
     (pair word 0 (length word - 4)))
 
--- one of 128 chains, by a scope and a key
+-- one of 512 chains, by a scope and a key: the halves of the key and the scope added, and spread by multiplication with 2 ^ 32 by the golden ratio
 abbrev pub mixed : ℕ → ℕ → ℕ
-mixed scope key = (key / 274877906944 + key + scope) % 4294967296 * 458679423 / 33554432 % 128
+mixed scope key = (key / 4294967296 + key + scope) % 4294967296 * 2654435769 / 8388608 % 512
 
 -- the chain of a name in a scope
 unfoldable pub chainOf : ℕ → List ℕ → ℕ
@@ -63,15 +63,15 @@ abbrev pub headIn : List ℕ → ℕ → ℕ
 headIn cells chain = getD cells (chain + 256) 0
 
 abbrev pub tailIn : List ℕ → ℕ → ℕ
-tailIn cells chain = getD cells (chain + 384) 0
+tailIn cells chain = getD cells (chain + 768) 0
 
 -- the row behind that at a place in its chain, one more than its place; 0 where there is none
 abbrev pub linkAt : List ℕ → ℕ → ℕ
-linkAt cells k = getD cells (k * 8 + 512 + 6) 0
+linkAt cells k = getD cells (k * 8 + 1280 + 6) 0
 
 -- the key that is kept of the row at a place
 abbrev pub keyAt : List ℕ → ℕ → ℕ
-keyAt cells k = getD cells (k * 8 + 512 + 7) 0
+keyAt cells k = getD cells (k * 8 + 1280 + 7) 0
 
 -- whether the row at a place is of a scope and has a key, by what is kept of it
 abbrev pub markedBy : List ℕ → ℕ → ℕ → ℕ → Bool
@@ -79,8 +79,8 @@ markedBy cells k scope key = cond (eqb (keyAt cells k) key) (eqb (rowAt cells k 
 
 -- the chains and the keys that stand in the array are right for its rows and this text
 pub record Linked (s cells : List ℕ) : Type 0 where
-  pub heads : (chain : ℕ) → chain < 128 → headIn cells chain ≡ nextOf (chainAt s cells) chain 0 (indexed cells)
-  pub tails : (chain : ℕ) → chain < 128 → tailIn cells chain ≡ lastOf (chainAt s cells) chain (indexed cells)
+  pub heads : (chain : ℕ) → chain < 512 → headIn cells chain ≡ nextOf (chainAt s cells) chain 0 (indexed cells)
+  pub tails : (chain : ℕ) → chain < 512 → tailIn cells chain ≡ lastOf (chainAt s cells) chain (indexed cells)
   pub links : (k : ℕ) → k < indexed cells → linkAt cells k ≡ nextOf (chainAt s cells) (chainAt s cells k) (k + 1) (indexed cells - (k + 1))
   pub keys : (k : ℕ) → k < indexed cells → keyAt cells k ≡ keyBy s (rowAt cells k)
 
@@ -118,13 +118,13 @@ numbers row key = row .start ∷ row .end ∷ row .scope ∷ row .sort ∷ row .
 
 -- where the link to the row behind the last of a chain stands: in that row, or with no row in the chain at its head
 abbrev pub linkPlace : ℕ → ℕ → ℕ
-linkPlace chain last = cond (eqb last 0) (chain + 256) ((last - 1) * 8 + 512 + 6)
+linkPlace chain last = cond (eqb last 0) (chain + 256) ((last - 1) * 8 + 1280 + 6)
 
 -- the array with this row at a place, the last of its chain and of all
 unfoldable pub withRow : List ℕ → List ℕ → ℕ → Row → List ℕ
 withRow s cells n row =
     let chain = chainBy s row in
-    set (set (set (sets cells (n * 8 + 512) (numbers row (keyBy s row))) (linkPlace chain (min (tailIn cells chain) n)) (n + 1)) (chain + 384) (n + 1)) 0 (n + 1)
+    set (set (set (sets cells (n * 8 + 1280) (numbers row (keyBy s row))) (linkPlace chain (min (tailIn cells chain) n)) (n + 1)) (chain + 768) (n + 1)) 0 (n + 1)
 
 -- one more than what stands at a place, which is at most n
 abbrev pub oneMore : List ℕ → ℕ → ℕ → ℕ
@@ -171,7 +171,7 @@ pub record Declared (s cells : List ℕ) (n : ℕ) (row : Row) (after : List ℕ
 
 -- the table without names: room for 424 rows
 unfoldable pub emptyTable : List ℕ
-emptyTable = replicate 3904 0
+emptyTable = replicate 4672 0
 
 -- an array with these rows declared one after the other, behind the first k
 unfoldable pub enteredIn : List ℕ → List ℕ → ℕ → List Row → List ℕ

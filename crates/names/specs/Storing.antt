@@ -51,7 +51,7 @@ module _ (s cells : List ℕ) (n : ℕ) (row : Row) (h : hasRoom cells n ≡ tru
   new = numbers row (keyBy s row)
 
   abbrev run : List ℕ
-  run = sets cells (n * 8 + 512) new
+  run = sets cells (n * 8 + 1280) new
 
   abbrev linked : List ℕ
   linked = set run link (n + 1)
@@ -64,41 +64,41 @@ module _ (s cells : List ℕ) (n : ℕ) (row : Row) (h : hasRoom cells n ≡ tru
   unfolding withRow
   row-long = simp (length-set, length-sets)
 
-  pub fits : n * 8 + 512 + 8 ≤ length cells
+  pub fits : n * 8 + 1280 + 8 ≤ length cells
   fits = omega (arith, ltb-true n (roomIn cells) h)
 
-  pub own-small : own < 128
+  pub own-small : own < 512
   own-small = chain-small (row .scope) (slice (row .start) (row .end) s)
 
-  run-fits : n * 8 + 512 + length new ≤ length cells
+  run-fits : n * 8 + 1280 + length new ≤ length cells
   run-fits = omega (arith, fits)
 
   -- where the link stands
   link-head : last ≡ 0 → link ≡ own + 256
   link-head e = rw (eq-eqb last 0 e)
 
-  link-row : (last ≡ 0 → ⊥) → link ≡ (last - 1) * 8 + 512 + 6
+  link-row : (last ≡ 0 → ⊥) → link ≡ (last - 1) * 8 + 1280 + 6
   link-row e = rw (ne-eqb last 0 e)
 
-  link-low : (256 ≤ link) × (link < n * 8 + 512)
+  link-low : (256 ≤ link) × (link < n * 8 + 1280)
   link-low = by (eqb last 0) refl
     where
-      by : (b : Bool) → eqb last 0 ≡ b → (256 ≤ link) × (link < n * 8 + 512)
+      by : (b : Bool) → eqb last 0 ≡ b → (256 ≤ link) × (link < n * 8 + 1280)
       by true e = (omega (arith, link-head (eqb-true last 0 e)), omega (arith, link-head (eqb-true last 0 e), own-small))
       by false e = (omega (arith, link-row (eqb-false last 0 e)), omega (arith, link-row (eqb-false last 0 e), eqb-false last 0 e))
 
   -- it is at no other chain's head, at no chain's tail, and no other number of a row
-  link-not : (place : ℕ) → (place ≡ own + 256 → ⊥) → ((k : ℕ) → place ≡ k * 8 + 512 + 6 → ⊥) → place ≡ link → ⊥
+  link-not : (place : ℕ) → (place ≡ own + 256 → ⊥) → ((k : ℕ) → place ≡ k * 8 + 1280 + 6 → ⊥) → place ≡ link → ⊥
   link-not place p q e = by (eqb last 0) refl
     where
       by : (b : Bool) → eqb last 0 ≡ b → ⊥
       by true z = p (e ∙ link-head (eqb-true last 0 z))
       by false z = q (last - 1) (e ∙ link-row (eqb-false last 0 z))
 
-  number-not : (k j : ℕ) → j < 8 → (j ≡ 6 → ⊥) → k * 8 + 512 + j ≡ link → ⊥
-  number-not k j g z = link-not (k * 8 + 512 + j) (λ e. omega (arith, e, own-small)) (λ i e. by i e (ltb i k) refl)
+  number-not : (k j : ℕ) → j < 8 → (j ≡ 6 → ⊥) → k * 8 + 1280 + j ≡ link → ⊥
+  number-not k j g z = link-not (k * 8 + 1280 + j) (λ e. omega (arith, e, own-small)) (λ i e. by i e (ltb i k) refl)
     where
-      by : (i : ℕ) → k * 8 + 512 + j ≡ i * 8 + 512 + 6 → (b : Bool) → ltb i k ≡ b → ⊥
+      by : (i : ℕ) → k * 8 + 1280 + j ≡ i * 8 + 1280 + 6 → (b : Bool) → ltb i k ≡ b → ⊥
       by i e true p = omega (arith, ltb-true i k p)
       by i e false p = z (near (ltb-false i k p) (eqb k i) refl)
         where
@@ -106,55 +106,55 @@ module _ (s cells : List ℕ) (n : ℕ) (row : Row) (h : hasRoom cells n ≡ tru
           near l true q = omega (arith, eqb-true k i q)
           near l false q = absurd (omega (arith, eqb-false k i q))
 
-  other : (place : ℕ) → (place ≡ 0 → ⊥) → (place ≡ own + 384 → ⊥) → (place ≡ link → ⊥) → getD after place 0 ≡ getD run place 0
+  other : (place : ℕ) → (place ≡ 0 → ⊥) → (place ≡ own + 768 → ⊥) → (place ≡ link → ⊥) → getD after place 0 ≡ getD run place 0
   unfolding withRow
-  other place z e l = getD-set-other (set linked (own + 384) (n + 1)) 0 place (n + 1) 0 z ∙ getD-set-other linked (own + 384) place (n + 1) 0 e ∙ getD-set-other run link place (n + 1) 0 l
+  other place z e l = getD-set-other (set linked (own + 768) (n + 1)) 0 place (n + 1) 0 z ∙ getD-set-other linked (own + 768) place (n + 1) 0 e ∙ getD-set-other run link place (n + 1) 0 l
 
   -- before the new row, beside the end of its chain and the number of rows, all is as it was
-  before : (place : ℕ) → place < n * 8 + 512 → (place ≡ 0 → ⊥) → (place ≡ own + 384 → ⊥) → (place ≡ link → ⊥) → getD after place 0 ≡ getD cells place 0
-  before place g z e l = other place z e l ∙ run-before cells new (n * 8 + 512) run-fits place g
+  before : (place : ℕ) → place < n * 8 + 1280 → (place ≡ 0 → ⊥) → (place ≡ own + 768 → ⊥) → (place ≡ link → ⊥) → getD after place 0 ≡ getD cells place 0
+  before place g z e l = other place z e l ∙ run-before cells new (n * 8 + 1280) run-fits place g
 
   pub low : (place : ℕ) → 0 < place → place < 256 → getD after place 0 ≡ getD cells place 0
   low place z g = before place (omega arith) (λ e. omega (arith, e)) (λ e. omega (arith, e)) (λ e. omega (arith, e, link-low .0))
 
   -- a number of the new row
-  number-at : (j : ℕ) → j < 8 → getD after (n * 8 + 512 + j) 0 ≡ getD new j 0
-  number-at j g = other (n * 8 + 512 + j) (λ z. omega (arith, z)) (λ z. omega (arith, z, own-small)) (λ z. omega (arith, z, link-low .1)) ∙ run-at cells new (n * 8 + 512) run-fits j g
+  number-at : (j : ℕ) → j < 8 → getD after (n * 8 + 1280 + j) 0 ≡ getD new j 0
+  number-at j g = other (n * 8 + 1280 + j) (λ z. omega (arith, z)) (λ z. omega (arith, z, own-small)) (λ z. omega (arith, z, link-low .1)) ∙ run-at cells new (n * 8 + 1280) run-fits j g
 
   -- a number of a row before it, beside its link
-  number-before : (k j : ℕ) → k < n → j < 8 → (j ≡ 6 → ⊥) → getD after (k * 8 + 512 + j) 0 ≡ getD cells (k * 8 + 512 + j) 0
-  number-before k j g i z = before (k * 8 + 512 + j) (omega arith) (λ e. omega (arith, e)) (λ e. omega (arith, e, own-small)) (number-not k j i z)
+  number-before : (k j : ℕ) → k < n → j < 8 → (j ≡ 6 → ⊥) → getD after (k * 8 + 1280 + j) 0 ≡ getD cells (k * 8 + 1280 + j) 0
+  number-before k j g i z = before (k * 8 + 1280 + j) (omega arith) (λ e. omega (arith, e)) (λ e. omega (arith, e, own-small)) (number-not k j i z)
 
   -- the number of rows, the end of the row's chain, and the link to it
   pub more-rows : indexed after ≡ n + 1
   unfolding withRow
-  more-rows = getD-set-same (set linked (own + 384) (n + 1)) 0 (n + 1) 0 (simp (length-set, length-sets) (omega (arith, fits)))
+  more-rows = getD-set-same (set linked (own + 768) (n + 1)) 0 (n + 1) 0 (simp (length-set, length-sets) (omega (arith, fits)))
 
   own-tail : tailIn after own ≡ n + 1
   unfolding withRow
-  own-tail = getD-set-other (set linked (own + 384) (n + 1)) 0 (own + 384) (n + 1) 0 (λ z. omega (arith, z)) ∙ getD-set-same linked (own + 384) (n + 1) 0 (simp (length-set, length-sets) (omega (arith, fits, own-small)))
+  own-tail = getD-set-other (set linked (own + 768) (n + 1)) 0 (own + 768) (n + 1) 0 (λ z. omega (arith, z)) ∙ getD-set-same linked (own + 768) (n + 1) 0 (simp (length-set, length-sets) (omega (arith, fits, own-small)))
 
   own-link : getD after link 0 ≡ n + 1
   unfolding withRow
   own-link =
-      getD-set-other (set linked (own + 384) (n + 1)) 0 link (n + 1) 0 (λ z. omega (arith, z, link-low .0))
-      ∙ getD-set-other linked (own + 384) link (n + 1) 0 (λ z. tail-not (sym z))
+      getD-set-other (set linked (own + 768) (n + 1)) 0 link (n + 1) 0 (λ z. omega (arith, z, link-low .0))
+      ∙ getD-set-other linked (own + 768) link (n + 1) 0 (λ z. tail-not (sym z))
       ∙ getD-set-same run link (n + 1) 0 (simp length-sets (omega (arith, fits, link-low .1)))
     where
-      tail-not : own + 384 ≡ link → ⊥
-      tail-not = link-not (own + 384) (λ e. omega (arith, e)) (λ k e. omega (arith, e, own-small))
+      tail-not : own + 768 ≡ link → ⊥
+      tail-not = link-not (own + 768) (λ e. omega (arith, e)) (λ k e. omega (arith, e, own-small))
 
   pub row-same : rowAt after n ≡ row
   unfolding rowAt
   row-same =
-      let first : getD after (n * 8 + 512) 0 ≡ row .start = ap (λ (i : ℕ). getD after i 0) (sym (add-zero (n * 8 + 512))) ∙ number-at 0 (lit< tt) in
+      let first : getD after (n * 8 + 1280) 0 ≡ row .start = ap (λ (i : ℕ). getD after i 0) (sym (add-zero (n * 8 + 1280))) ∙ number-at 0 (lit< tt) in
       rw (first, number-at 1 (lit< tt), number-at 2 (lit< tt), number-at 3 (lit< tt), number-at 4 (lit< tt), number-at 5 (lit< tt))
 
   pub row-before : (k : ℕ) → k < n → rowAt after k ≡ rowAt cells k
   unfolding rowAt
   row-before k g =
-      let on : (j : ℕ) → j < 6 → getD after (k * 8 + 512 + j) 0 ≡ getD cells (k * 8 + 512 + j) 0 = λ j i. number-before k j g (omega arith) (λ e. omega (arith, e)) in
-      let first : getD after (k * 8 + 512) 0 ≡ getD cells (k * 8 + 512) 0 = rw (add-zero (k * 8 + 512)) at (on 0 (lit< tt)) in
+      let on : (j : ℕ) → j < 6 → getD after (k * 8 + 1280 + j) 0 ≡ getD cells (k * 8 + 1280 + j) 0 = λ j i. number-before k j g (omega arith) (λ e. omega (arith, e)) in
+      let first : getD after (k * 8 + 1280) 0 ≡ getD cells (k * 8 + 1280) 0 = rw (add-zero (k * 8 + 1280)) at (on 0 (lit< tt)) in
       rw (first, on 1 (lit< tt), on 2 (lit< tt), on 3 (lit< tt), on 4 (lit< tt), on 5 (lit< tt))
 
   rows-before : (m k : ℕ) → k + m ≤ n → rowsFrom m after k ≡ rowsFrom m cells k
@@ -208,7 +208,7 @@ module _ (s cells : List ℕ) (n : ℕ) (row : Row) (h : hasRoom cells n ≡ tru
         let none : nextOf (chainAt s cells) own k d ≡ 0 = next-zero (chainAt s cells) own k d (λ j i l. last-above (chainAt s cells) own n j (omega (arith, last-is)) (omega arith)) in
         next-new (chainAt s after) own k d (nexts-same own k d (omega arith) ∙ none) (rw e chain-own) ∙ omega (arith, e)
 
-    heads-then : (chain : ℕ) → chain < 128 → headIn after chain ≡ nextOf (chainAt s after) chain 0 (suc n)
+    heads-then : (chain : ℕ) → chain < 512 → headIn after chain ≡ nextOf (chainAt s after) chain 0 (suc n)
     heads-then chain g = by (eqb own chain) refl (eqb last 0) refl
       where
         z : 0 + n ≡ n
@@ -233,7 +233,7 @@ module _ (s cells : List ℕ) (n : ℕ) (row : Row) (h : hasRoom cells n ≡ tru
             let some = eqb-false last 0 q in
             same-head (inr some) ∙ rw (← is) (sym (next-later 0 n z some (omega (arith, some))))
 
-    tails-then : (chain : ℕ) → chain < 128 → tailIn after chain ≡ lastOf (chainAt s after) chain (suc n)
+    tails-then : (chain : ℕ) → chain < 512 → tailIn after chain ≡ lastOf (chainAt s after) chain (suc n)
     tails-then chain g = by (eqb (chainAt s after n) chain) refl
       where
         by : (b : Bool) → eqb (chainAt s after n) chain ≡ b → tailIn after chain ≡ lastOf (chainAt s after) chain (suc n)
@@ -242,7 +242,7 @@ module _ (s cells : List ℕ) (n : ℕ) (row : Row) (h : hasRoom cells n ≡ tru
             rw (last-own (chainAt s after) chain n e) (rw is at own-tail ∙ add-one n)
         by false e =
             let not : own ≡ chain → ⊥ = λ q. eqb-false (chainAt s after n) chain e (chain-own ∙ q) in
-            let was : tailIn after chain ≡ tailIn cells chain = before (chain + 384) (omega arith) (λ z. omega (arith, z)) (λ z. not (omega (arith, z))) (link-not (chain + 384) (λ z. omega (arith, z, own-small)) (λ k z. omega (arith, z))) in
+            let was : tailIn after chain ≡ tailIn cells chain = before (chain + 768) (omega arith) (λ z. omega (arith, z)) (λ z. not (omega (arith, z))) (link-not (chain + 768) (λ z. omega (arith, z, own-small)) (λ k z. omega (arith, z))) in
             was ∙ ix .tails chain g ∙ rw m (sym (last-else (chainAt s after) chain n e ∙ lasts-same chain n (omega arith)))
 
     -- a row before the new one
@@ -256,10 +256,10 @@ module _ (s cells : List ℕ) (n : ℕ) (row : Row) (h : hasRoom cells n ≡ tru
       more : n + 1 - (k + 1) ≡ suc d
       more = omega arith
 
-      kept : ((last - 1) * 8 + 512 + 6 ≡ k * 8 + 512 + 6 → (last ≡ 0 → ⊥) → ⊥) → linkAt after k ≡ nextOf (chainAt s cells) (chainAt s cells k) (k + 1) d
-      kept z = before (k * 8 + 512 + 6) (omega arith) (λ e. omega (arith, e)) (λ e. omega (arith, e, own-small)) (λ e. not e (eqb last 0) refl) ∙ ix .links k (omega (arith, m)) ∙ rw m
+      kept : ((last - 1) * 8 + 1280 + 6 ≡ k * 8 + 1280 + 6 → (last ≡ 0 → ⊥) → ⊥) → linkAt after k ≡ nextOf (chainAt s cells) (chainAt s cells k) (k + 1) d
+      kept z = before (k * 8 + 1280 + 6) (omega arith) (λ e. omega (arith, e)) (λ e. omega (arith, e, own-small)) (λ e. not e (eqb last 0) refl) ∙ ix .links k (omega (arith, m)) ∙ rw m
         where
-          not : k * 8 + 512 + 6 ≡ link → (b : Bool) → eqb last 0 ≡ b → ⊥
+          not : k * 8 + 1280 + 6 ≡ link → (b : Bool) → eqb last 0 ≡ b → ⊥
           not e true p = omega (arith, e, link-head (eqb-true last 0 p), own-small)
           not e false p = z (sym (link-row (eqb-false last 0 p)) ∙ sym e) (eqb-false last 0 p)
 
@@ -270,7 +270,7 @@ module _ (s cells : List ℕ) (n : ℕ) (row : Row) (h : hasRoom cells n ≡ tru
       then true p true q =
           let is = eqb-true own (chainAt s cells k) p in
           let at : last ≡ k + 1 = eqb-true last (k + 1) q in
-          let here : link ≡ k * 8 + 512 + 6 = link-row (λ z. omega (arith, z, at)) ∙ omega (arith, at) in
+          let here : link ≡ k * 8 + 1280 + 6 = link-row (λ z. omega (arith, z, at)) ∙ omega (arith, at) in
           rw (← is) (rw here at own-link ∙ sym (next-last (k + 1) d to (omega (arith, at))))
       then true p false q =
           let is = eqb-true own (chainAt s cells k) p in

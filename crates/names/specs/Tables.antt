@@ -15,12 +15,12 @@ use Rattle.names.specs.declared.Sought.the-variants.{Sort, Port, PortOf}
 unfoldable pub rowAt : List ℕ → ℕ → Row
 rowAt cells k =
     record {
-      start = getD cells (k * 8 + 512) 0;
-      end = getD cells (k * 8 + 512 + 1) 0;
-      scope = getD cells (k * 8 + 512 + 2) 0;
-      sort = getD cells (k * 8 + 512 + 3) 0;
-      typ = getD cells (k * 8 + 512 + 4) 0;
-      value = getD cells (k * 8 + 512 + 5) 0;
+      start = getD cells (k * 8 + 1280) 0;
+      end = getD cells (k * 8 + 1280 + 1) 0;
+      scope = getD cells (k * 8 + 1280 + 2) 0;
+      sort = getD cells (k * 8 + 1280 + 3) 0;
+      typ = getD cells (k * 8 + 1280 + 4) 0;
+      value = getD cells (k * 8 + 1280 + 5) 0;
     }
 
 -- so many rows from a place on
@@ -34,7 +34,7 @@ rowsIn cells n = rowsFrom n cells 0
 
 -- the number of rows that the array has room for
 abbrev pub roomIn : List ℕ → ℕ
-roomIn cells = (length cells - 512) / 8
+roomIn cells = (length cells - 1280) / 8
 
 -- the array has room for a row behind the first n
 abbrev pub hasRoom : List ℕ → ℕ → Bool

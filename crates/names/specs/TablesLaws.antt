@@ -39,7 +39,7 @@ pub row-out : (cells : List ℕ) (k : ℕ) → length cells ≤ k → record { s
 unfolding rowAt
 row-out cells k h =
     let out : (j : ℕ) → length cells ≤ j → getD cells j 0 ≡ 0 = λ j g. List·getD-eq-default cells 0 g in
-    rw (out (k * 8 + 512) (omega arith), out (k * 8 + 512 + 1) (omega arith), out (k * 8 + 512 + 2) (omega arith), out (k * 8 + 512 + 3) (omega arith), out (k * 8 + 512 + 4) (omega arith), out (k * 8 + 512 + 5) (omega arith))
+    rw (out (k * 8 + 1280) (omega arith), out (k * 8 + 1280 + 1) (omega arith), out (k * 8 + 1280 + 2) (omega arith), out (k * 8 + 1280 + 3) (omega arith), out (k * 8 + 1280 + 4) (omega arith), out (k * 8 + 1280 + 5) (omega arith))
 
 module _ (s cells : List ℕ) (k n scope : ℕ) (word : List ℕ) where
   pub find-end : n ≤ k → find s (rowsUp cells k n) scope word ≡ unknown

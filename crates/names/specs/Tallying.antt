@@ -68,7 +68,7 @@ first-by k n known g i = by (eqb known 0) refl (eqb k n) refl
     by false p true q = (omega (arith, eqb-false known 0 p), omega (arith, eqb-true k n q))
     by false p false q = (omega (arith, i (omega (arith, eqb-false k n q)) .0), omega (arith, i (omega (arith, eqb-false k n q)) .1))
 
-module _ (cells : List ℕ) (n : ℕ) (row : Row) (h : 512 ≤ length cells) where
+module _ (cells : List ℕ) (n : ℕ) (row : Row) (h : 1280 ≤ length cells) where
   -- the places where the row counts, the arrays between, and the last
   abbrev after : List ℕ
   after = tallied cells n row
@@ -128,7 +128,7 @@ module _ (cells : List ℕ) (n : ℕ) (row : Row) (h : 512 ≤ length cells) whe
 
   row-kept : (k : ℕ) → rowAt after k ≡ rowAt cells k
   unfolding rowAt
-  row-kept k = rw (outside (k * 8 + 512) (omega arith), outside (k * 8 + 512 + 1) (omega arith), outside (k * 8 + 512 + 2) (omega arith), outside (k * 8 + 512 + 3) (omega arith), outside (k * 8 + 512 + 4) (omega arith), outside (k * 8 + 512 + 5) (omega arith))
+  row-kept k = rw (outside (k * 8 + 1280) (omega arith), outside (k * 8 + 1280 + 1) (omega arith), outside (k * 8 + 1280 + 2) (omega arith), outside (k * 8 + 1280 + 3) (omega arith), outside (k * 8 + 1280 + 4) (omega arith), outside (k * 8 + 1280 + 5) (omega arith))
 
   rows-kept : (m k : ℕ) → rowsFrom m after k ≡ rowsFrom m cells k
   unfolding rowsFrom
@@ -145,9 +145,9 @@ module _ (cells : List ℕ) (n : ℕ) (row : Row) (h : 512 ≤ length cells) whe
   linked-kept s l =
       record {
         heads = λ chain g. rw (size-same, nexts-kept s chain 0 (indexed cells), outside (chain + 256) (omega arith)) (l .heads chain g);
-        tails = λ chain g. rw (size-same, lasts-kept s chain (indexed cells), outside (chain + 384) (omega arith)) (l .tails chain g);
-        links = λ k g. rw (size-same, outside (k * 8 + 512 + 6) (omega arith), row-kept k, nexts-kept s (chainAt s cells k) (k + 1) (indexed cells - (k + 1))) (l .links k (rw size-same at g));
-        keys = λ k g. rw (outside (k * 8 + 512 + 7) (omega arith), row-kept k) (l .keys k (rw size-same at g));
+        tails = λ chain g. rw (size-same, lasts-kept s chain (indexed cells), outside (chain + 768) (omega arith)) (l .tails chain g);
+        links = λ k g. rw (size-same, outside (k * 8 + 1280 + 6) (omega arith), row-kept k, nexts-kept s (chainAt s cells k) (k + 1) (indexed cells - (k + 1))) (l .links k (rw size-same at g));
+        keys = λ k g. rw (outside (k * 8 + 1280 + 7) (omega arith), row-kept k) (l .keys k (rw size-same at g));
       }
 
 -- ---- the counts behind a declaration
@@ -160,7 +160,7 @@ module _ (s cells : List ℕ) (n : ℕ) (row : Row) (h : hasRoom cells n ≡ tru
   abbrev tallies : List ℕ
   tallies = tallied stored n row
 
-  pub long : 512 ≤ length stored
+  pub long : 1280 ≤ length stored
   long = omega (arith, store.row-long s cells n row h, store.fits s cells n row h)
 
   pub size-then : indexed tallies ≡ n + 1

@@ -79,7 +79,7 @@ module _ (s : List ℕ) (scope : ℕ) (word : List ℕ) where
   scope-beyond cells n fit h = named-none cells n 0 refl (sym (lowest-empty (hasName cells) n 0 (λ j g. other j)))
     where
       other : (j : ℕ) → hasName cells j ≡ false
-      other j = simp (ne-eqb (getD cells (j * 8 + 512 + 2) 0) scope (λ z. omega (arith, z, h, fit (j * 8 + 512 + 2))))
+      other j = simp (ne-eqb (getD cells (j * 8 + 1280 + 2) 0) scope (λ z. omega (arith, z, h, fit (j * 8 + 1280 + 2))))
 
   -- whether the row at a place is of the name's scope and has its key
   abbrev pub marked : List ℕ → ℕ → Bool

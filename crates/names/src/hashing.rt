@@ -65,9 +65,9 @@ pub fn key_in(s: &[u8], start: usize, end: usize) -> usize
 
 // The chain in a scope of the names with a key.
 pub fn chain_of(scope: usize, key: usize) -> usize
-    ensures { λ r. ⌜ (r ≡ mixed scope key) × (r < 128) ⌝ }
+    ensures { λ r. ⌜ (r ≡ mixed scope key) × (r < 512) ⌝ }
 {
-    let sum = std::num::wrapping_add_usize(key / 274877906944, key);
+    let sum = std::num::wrapping_add_usize(key / 4294967296, key);
     let all = std::num::wrapping_add_usize(sum, scope);
-    all % 4294967296 * 458679423 / 33554432 % 128
+    all % 4294967296 * 2654435769 / 8388608 % 512
 }

@@ -53,7 +53,7 @@ fn ragged(cells: &[usize], k: usize) -> Row
             value: 0,
         };
     }
-    let first = k * 8 + 512;
+    let first = k * 8 + 1280;
     let start = cell(cells, first);
     let end = cell(cells, first + 1);
     let scope = cell(cells, first + 2);
@@ -74,10 +74,10 @@ fn ragged(cells: &[usize], k: usize) -> Row
 fn room(cells: &[usize]) -> usize
     ensures { λ r. ⌜ r ≡ roomIn (now (cells .entry)) ⌝ }
 {
-    if cells.len() < 512 {
+    if cells.len() < 1280 {
         return 0;
     }
-    (cells.len() - 512) / 8
+    (cells.len() - 1280) / 8
 }
 
 // The row at a place where the array does not end within it.
@@ -85,7 +85,7 @@ fn whole(cells: &[usize], k: usize) -> Row
     requires { ⌜ k < roomIn (now cells) ⌝ }
     ensures { λ r. ⌜ r ≡ rowAt (now (cells .entry)) k ⌝ }
 {
-    let first = k * 8 + 512;
+    let first = k * 8 + 1280;
     Row {
         start: cells[first],
         end: cells[first + 1],
@@ -215,7 +215,7 @@ fn is_marked(cells: &[usize], k: usize, scope: usize, key: usize) -> bool
     requires { ⌜ k < roomIn (now cells) ⌝ }
     ensures { λ r. ⌜ r ≡ markedBy (now (cells .entry)) k scope key ⌝ }
 {
-    let first = k * 8 + 512;
+    let first = k * 8 + 1280;
     if cells[first + 7] == key {
         return cells[first + 2] == scope;
     }
@@ -224,7 +224,7 @@ fn is_marked(cells: &[usize], k: usize, scope: usize, key: usize) -> bool
 
 // The first row of its chain, from head on and among the first n, that is of this scope and has this key, one more than its place; 0 where there is none.
 fn chained(cells: &[usize], n: usize, scope: usize, key: usize, head: usize) -> usize
-    requires { ⌜ (3904 ≤ length (now cells)) × (n ≤ 424) × (0 < head) ⌝ }
+    requires { ⌜ (4672 ≤ length (now cells)) × (n ≤ 424) × (0 < head) ⌝ }
     ensures { λ r. ⌜ (r ≤ 424) × ((s : List ℕ) (word : List ℕ) → Indexed s (now (cells .entry)) → n ≤ indexed (now (cells .entry)) → key ≡ keyOf word → head ≡ headIn (now (cells .entry)) (chainOf scope word) → r ≡ markedFirst s scope word (now (cells .entry)) n) ⌝ }
 {
     let mut link = head;
@@ -232,7 +232,7 @@ fn chained(cells: &[usize], n: usize, scope: usize, key: usize, head: usize) -> 
         if is_marked(cells, link - 1, scope, key) {
             return link;
         }
-        let next = cells[(link - 1) * 8 + 512 + 6];
+        let next = cells[(link - 1) * 8 + 1280 + 6];
         if next <= link {
             return 0;
         }
@@ -246,11 +246,11 @@ fn is_named(s: &[u8], cells: &[usize], k: usize, start: usize, n: usize) -> bool
     requires { ⌜ (k < roomIn (now cells)) × (0 < n) × (start + n ≤ length (now s)) ⌝ }
     ensures { λ r. ⌜ (r ≡ true → keyOf (wordAt (now (s .entry)) (now (cells .entry)) k) ≡ keyOf (slice start (start + n) (now (s .entry))) → same (wordAt (now (s .entry)) (now (cells .entry)) k) (slice start (start + n) (now (s .entry))) ≡ true) ⌝ }
 {
-    let stop = least(cells[k * 8 + 512 + 1], s.len());
+    let stop = least(cells[k * 8 + 1280 + 1], s.len());
     if stop < n {
         return false;
     }
-    if stop - n != cells[k * 8 + 512] {
+    if stop - n != cells[k * 8 + 1280] {
         return false;
     }
     if n <= 8 {
@@ -263,7 +263,7 @@ fn is_named(s: &[u8], cells: &[usize], k: usize, start: usize, n: usize) -> bool
 fn place(s: &[u8], cells: &[usize], n: usize, scope: usize, start: usize, end: usize) -> usize
     ensures { λ r. ⌜ (0 < r → r < 425 → r ≤ roomIn (now (cells .entry))) × (Indexed (now (s .entry)) (now (cells .entry)) → r < 425 → r ≡ namedFirst (now (s .entry)) scope (slice start end (now (s .entry))) (now (cells .entry)) n) ⌝ }
 {
-    if 3904 <= cells.len() {
+    if 4672 <= cells.len() {
         if n <= 424 {
             if n <= cells[0] {
                 let stop = least(end, s.len());

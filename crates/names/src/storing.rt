@@ -8,13 +8,13 @@ use refusals::Row;
 
 // Where the link to the row behind the last of a chain stands: in that row, or with no row in the chain at its head.
 fn link_place(chain: usize, last: usize) -> usize
-    requires { ⌜ (chain < 128) × (last * 8 + 520 < 18446744073709551616) ⌝ }
-    ensures { λ r. ⌜ (r ≡ linkPlace chain last) × (r < last * 8 + 512) ⌝ }
+    requires { ⌜ (chain < 512) × (last * 8 + 1288 < 18446744073709551616) ⌝ }
+    ensures { λ r. ⌜ (r ≡ linkPlace chain last) × (r < last * 8 + 1280) ⌝ }
 {
     if last == 0 {
         return chain + 256;
     }
-    (last - 1) * 8 + 512 + 6
+    (last - 1) * 8 + 1280 + 6
 }
 
 // The row behind the first n, as the last of its chain.
@@ -24,9 +24,9 @@ pub(crate) fn enter(s: &[u8], cells: &mut [usize], n: usize, row: Row)
 {
     let key = super::hashing::key_in(s, row.start, row.end);
     let chain = super::hashing::chain_of(row.scope, key);
-    let last = super::least(cells[chain + 384], n);
+    let last = super::least(cells[chain + 768], n);
     let place = link_place(chain, last);
-    let first = n * 8 + 512;
+    let first = n * 8 + 1280;
     cells[first] = row.start;
     cells[first + 1] = row.end;
     cells[first + 2] = row.scope;
@@ -36,7 +36,7 @@ pub(crate) fn enter(s: &[u8], cells: &mut [usize], n: usize, row: Row)
     cells[first + 6] = 0;
     cells[first + 7] = key;
     cells[place] = n + 1;
-    cells[chain + 384] = n + 1;
+    cells[chain + 768] = n + 1;
     cells[0] = n + 1;
 }
 

@@ -38,7 +38,7 @@ use Rattle.noting.specs.Filled.{table-indexed}
 pub record Rowed (s : List ℕ) (rows : List Row) (cells : List ℕ) (n : ℕ) : Type 0 where
   pub same : rowsIn cells n ≡ rows
   pub table : cells ≡ tableIn s rows
-  pub long : length cells ≡ 3904
+  pub long : length cells ≡ 4672
   pub roomy : Roomy rows
   pub fits : RowsFit rows
   pub sorted : Sorted rows

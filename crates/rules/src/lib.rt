@@ -162,17 +162,17 @@ fn fold<'a>(
 }
 
 // The leftmost of 4 to 12 that a text breaks, and where it breaks none the table of the names that it declares; beside a refusal the table is empty.
-pub fn judge<'a>(s: &'a [u8], memo: &'a [usize], cells: &mut [usize; 3904]) -> Judged
+pub fn judge<'a>(s: &'a [u8], memo: &'a [usize], cells: &mut [usize; 4672]) -> Judged
     ensures { λ r. ⌜ (Kept (now (s .entry)) (now (memo .entry)) → Judges (now (s .entry)) r (now (cells .exit))) ⌝ }
 {
-    *cells = [0usize; 3904];
+    *cells = [0usize; 4672];
     let mut rates = [0usize; 32];
     let mut tasks = [0usize; 32];
     let mut aims = [0usize; 32];
     let outcome = fold(s, memo, cells, &mut rates, &mut tasks, &mut aims);
     let answer = outcome.verdict;
     let Verdict::Fine = answer else {
-        *cells = [0usize; 3904];
+        *cells = [0usize; 4672];
         return Judged {
             verdict: answer,
             rows: 0,

@@ -48,11 +48,11 @@ unfolding enteredIn
 entered-long s [] cells k = refl
 entered-long s (row ∷ rows) cells k = entered-long s rows (declaredIn s cells k row) (k + 1) ∙ declared-length {s = s} {cells = cells} {n = k} {row = row} (record { array = refl; rows = refl })
 
-pub names-long : {s : List ℕ} {r : Judged} {cells : List ℕ} → Judges s r cells → length cells ≡ 3904
+pub names-long : {s : List ℕ} {r : Judged} {cells : List ℕ} → Judges s r cells → length cells ≡ 4672
 unfolding tableIn
 names-long {s} j = rw (j .table) (by (verdictOf s))
   where
-    by : (v : Verdict) → length (tabledBy s v (allNames s)) ≡ 3904
+    by : (v : Verdict) → length (tabledBy s v (allNames s)) ≡ 4672
     by Fine = entered-long s (allNames s) emptyTable 0 ∙ empty-long
     by (No number at) = empty-long
 

@@ -171,7 +171,7 @@ fn judged<'a>(text: &'a [u8], memo: &'a [usize], out: &mut [u8]) -> Compiled
     requires { ⌜ Readable (now text) × Kept (now text) (now memo) ⌝ }
     ensures { λ r. ⌜ Compiles (now (text .entry)) (now (out .entry)) r (now (out .exit)) ⌝ }
 {
-    let mut names = [0usize; 3904];
+    let mut names = [0usize; 4672];
     let judged = rules::judge(text, memo, &mut names);
     let verdict = judged.verdict;
     if let Verdict::No { number, at: place } = verdict {
