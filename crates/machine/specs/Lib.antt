@@ -15,4 +15,5 @@ pub mod Counts
 pub mod CountLaw
 pub mod SoundLaws
 pub mod Answers
+pub mod Numbers
 pub mod Cases
