@@ -10,6 +10,7 @@ pub mod ClockLaws
 pub mod HandedLaws
 pub mod NoTrace
 pub mod Obeys
+pub mod Asks
 pub mod Starts
 pub mod Counts
 pub mod CountLaw

@@ -1,4 +1,4 @@
--- What soundness says of a table's tasks and releases: every task that the code releases is one of the table's, of which there are at most 32.
+-- Laws: what soundness says of a table's tasks and releases: every task that the code releases is one of the table's, of which there are at most 32.
 use Prim.Native.Nat.{ℕ, _+_, _≤_}
 use native.Mathlib.Omega.{arith}
 use mathlib.Core.Path.{_≡_, refl}
@@ -23,7 +23,8 @@ use Rattle.file.specs.Files.{table, versionOf, tableBy, sound}
 use Rattle.machine.specs.Boards.{boardOf}
 use Rattle.machine.specs.Calls.{readingTypes, tasksOut}
 use Rattle.machine.specs.Starts.{start}
-use Rattle.machine.specs.Counts.{Call, history, opened}
+use Rattle.machine.specs.Asks.{Ask}
+use Rattle.machine.specs.Counts.{Account, history, opened}
 use Rattle.machine.specs.CountLaw.{within, Within, count-law}
 
 tasks-room : (t : Table) → tableBy (versionOf t) .ok t ≡ true → length (t .tasks) ≤ 32
@@ -58,10 +59,9 @@ sound-within t is-sound =
     let good = and-right (begins && eqb (startModes (t .modes)) 1) _ (and-right rows _ (and-right (tableBy (versionOf t) .ok t) _ is-sound)) in
     all-within t (tasks-room t (and-left _ _ is-sound)) (t .code) good
 
--- Over every history of calls of a machine on a table that the reader can return.
-pub sound-count-law : (t : Table) → sound t ≡ true → (count : ℕ) (words : List ℕ) (calls : List Call)
-    → history (boardOf t) (opened (boardOf t) count words) calls .releases
-    ≡ history (boardOf t) (opened (boardOf t) count words) calls .terminations + tasksOut (history (boardOf t) (opened (boardOf t) count words) calls .state)
+-- Releases so far equal terminations plus tasks out, over every history of calls of a machine on a table that the reader can return.
+pub sound-count-law : (t : Table) → sound t ≡ true → (count : ℕ) (words : List ℕ) (calls : List Ask)
+    → let after = history (boardOf t) (opened (boardOf t) count words) calls in after .releases ≡ after .terminations + tasksOut (after .state)
 sound-count-law t is-sound count words calls = count-law (boardOf t) (unfold boardOf in sound-within t is-sound) count words calls
 
 -- the account opens where a start that is not refused leaves the machine

@@ -6,13 +6,8 @@ use mathlib.Core.List.{List, [], _∷_, map}
 use lib.ListN.{length, getD, set}
 use Rattle.model.specs.Clock.{elapsed, Instant, early, due, missed, judged, fits}
 use Rattle.model.specs.Modules.{Module, Mode, Task, noTask, portStarts}
+pub use Rattle.machine.specs.Asks.{Ask, tick, next, finish}
 use Rattle.timing.specs.Rules.{Standing, idle, ready, running, done, Store, Outcome, well, late, Place, modeAt, nextInstant, sensed, entered, instant}
-
--- What the host asks. Values are handed in as their types and their words.
-pub data Ask : Type 0 where
-  tick : ℕ → List ℕ → List ℕ → Ask
-  next : Ask
-  finish : ℕ → List ℕ → List ℕ → Ask
 
 -- What is answered: idle; a reaction; a refusal's number; fault 40 with the late task; the task handed out, or none; results taken.
 pub data Reply : Type 0 where

@@ -16,17 +16,12 @@ use Rattle.machine.specs.declared.Turn.{Turn}
 use Rattle.machine.specs.declared.Turn.the-variants as T
 use Rattle.machine.specs.declared.Finishing.{Finishing}
 use Rattle.machine.specs.declared.Finishing.the-variants as F
+pub use Rattle.machine.specs.Asks.{Answer, ticking, turning, finishing}
 use Rattle.machine.specs.Instructions as E
 use Rattle.machine.specs.Instructions.{Res, ok, bad, Halt, Tally}
 use Rattle.timing.specs.Reacts.{reacting}
 
 -- ---- answers, and what they are in the rules' words
-
--- what a call answers
-pub data Answer : Type 0 where
-  ticking : Reaction → Answer
-  turning : Turn → Answer
-  finishing : Finishing → Answer
 
 -- A fault other than 40 is no reply of the rules.
 abbrev pub replyTo : Answer → Option Reply
