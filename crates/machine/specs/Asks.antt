@@ -4,6 +4,7 @@ use mathlib.Core.List.{List, [], _∷_}
 use Rattle.machine.specs.declared.Reaction.{Reaction}
 use Rattle.machine.specs.declared.Turn.{Turn}
 use Rattle.machine.specs.declared.Finishing.{Finishing}
+use Rattle.machine.specs.Answers.{Meaning, reactionMeans, turnMeans, finishingMeans}
 use Rattle.machine.specs.Boards.{Board}
 use Rattle.machine.specs.Calls as C
 use Rattle.machine.specs.Calls.{State, nextTask}
@@ -19,6 +20,12 @@ pub data Answer : Type 0 where
   ticking : Reaction → Answer
   turning : Turn → Answer
   finishing : Finishing → Answer
+
+-- its number, instructions and task in document 01
+abbrev pub means : Answer → Meaning
+means (ticking reaction) = reactionMeans reaction
+means (turning turn) = turnMeans turn
+means (finishing result) = finishingMeans result
 
 -- an answer, and the machine after it
 pub record Asked : Type 0 where

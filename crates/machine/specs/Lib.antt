@@ -18,3 +18,4 @@ pub mod SoundLaws
 pub mod Answers
 pub mod Numbers
 pub mod Cases
+pub mod CallCases
