@@ -9,6 +9,7 @@ pub mod Leaves
 pub mod ClockLaws
 pub mod HandedLaws
 pub mod NoTrace
+pub mod AsideLaws
 pub mod Obeys
 pub mod Asks
 pub mod Starts
