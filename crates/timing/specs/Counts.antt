@@ -39,11 +39,12 @@ ifReacted (given task) n = 0
 ifReacted taken n = 0
 
 module _ (M : Module) where
-  -- Releases, and terminations of tasks that were out, over a history.
+  -- releases over a history
   abbrev pub releasesIn : List Ask → View → ℕ
   releasesIn [] v = 0
   releasesIn (a ∷ rest) v = ifReacted (ask M a v .reply) (length (ask M a v .view .place .released)) + releasesIn rest (ask M a v .view)
 
+  -- terminations of tasks that were out, over a history
   abbrev pub endingsIn : List Ask → View → ℕ
   endingsIn [] v = 0
   endingsIn (a ∷ rest) v = ifReacted (ask M a v .reply) (endedOut (endingNext M v) (v .place .store .tasks)) + endingsIn rest (ask M a v .view)
