@@ -3,3 +3,4 @@ pub mod Compiles
 pub mod Answers
 pub mod Bench
 pub mod Acceptance
+pub mod Numbers
