@@ -4,3 +4,4 @@ pub mod Answers
 pub mod Bench
 pub mod Acceptance
 pub mod Numbers
+pub mod RefusalCases
