@@ -16,17 +16,19 @@ use Rattle.text.specs.declared.Item.the-variants as I
 use Rattle.text.specs.Tokens.{codeOf}
 use Rattle.grammar.specs.Expressions.{Letter}
 
+-- whether a token is of a kind
 abbrev pub isA : Token → Letter → Bool
 isA t l = eqb (codeOf (l .token)) (codeOf t)
 
--- the token at a place of a production, and its bytes as a name
+-- the token at a place of a production
 abbrev pub letterAt : ℕ → List Letter → Letter
 letterAt i ts = getD ts i (record { token = T.End; start = 0; end = 0; bytes = [] })
 
+-- its place in the text, as a name's or a number's
 abbrev pub nameIn : ℕ → List Letter → Name
 nameIn i ts = record { start = letterAt i ts .start; end = letterAt i ts .end }
 
--- the value that stands first, and the tokens behind it
+-- Value: "true", "false", ["-"] number, or a name, that stands first
 unfoldable pub valueIn : List Letter → Literal
 valueIn ts =
     cond (isA T.KeyTrue (letterAt 0 ts)) (Truth (letterAt 0 ts .start) true) (
@@ -35,78 +37,95 @@ valueIn ts =
     cond (isA T.Number (letterAt 0 ts)) (Number (letterAt 0 ts .start) (nameIn 0 ts) false)
     (Named (nameIn 0 ts)))))
 
+-- the tokens behind it
 unfoldable pub pastValue : List Letter → List Letter
 pastValue ts = cond (isA T.Minus (letterAt 0 ts)) (drop 2 ts) (drop 1 ts)
 
--- the port that stands first
+-- Port: a name, or name "." name, that stands first
 unfoldable pub portIn : List Letter → Port
 portIn ts = cond (isA T.Dot (letterAt 1 ts)) (record { first = nameIn 0 ts; second = nameIn 2 ts; dotted = true }) (record { first = nameIn 0 ts; second = nameIn 0 ts; dotted = false })
 
--- name; name "=" value ";"; type name "uses" name ";"; type name ":=" value "uses" name ";"
+-- name
 abbrev pub asModule : List Letter → Item
 asModule ts = I.Module (nameIn 0 ts)
 
+-- the keyword of a section
 abbrev pub asSection : List Letter → Item
 asSection ts = I.Section
 
+-- name "=" value ";"
 abbrev pub asConstant : List Letter → Item
 asConstant ts = I.Constant (nameIn 0 ts) (valueIn (drop 2 ts))
 
+-- type name "uses" name ";"
 abbrev pub asSensor : List Letter → Item
 asSensor ts = I.Sensor (nameIn 0 ts) (nameIn 1 ts) (nameIn 3 ts)
 
+-- type name ":=" value "uses" name ";"
 abbrev pub asActuator : List Letter → Item
 asActuator ts = I.Actuator (nameIn 0 ts) (nameIn 1 ts) (valueIn (drop 3 ts)) (nameIn 1 (pastValue (drop 3 ts)))
 
--- name; type name ";"; type name ":=" value ";"; the name behind "uses"
+-- name
 abbrev pub asTask : List Letter → Item
 asTask ts = I.TaskBegin (nameIn 0 ts)
 
+-- type name ";"
 abbrev pub asInput : List Letter → Item
 asInput ts = I.Input (nameIn 0 ts) (nameIn 1 ts)
 
+-- type name ":=" value ";"
 abbrev pub asOutput : List Letter → Item
 asOutput ts = I.Output (nameIn 0 ts) (nameIn 1 ts) (valueIn (drop 3 ts))
 
+-- the name behind "uses"
 abbrev pub asTaskEnd : List Letter → Item
 asTaskEnd ts = I.TaskEnd (nameIn 0 ts)
 
--- "mode" name "[" "period" "=" number unit "]" "{", behind "start" too
+-- "mode" name "[" "period" "=" number unit "]" "{", of a mode that begins at a place
 abbrev pub asMode : Bool → ℕ → List Letter → Item
 asMode start at ts = I.ModeBegin start at (nameIn 1 ts) (nameIn 5 ts) (same (letterAt 6 ts .bytes) (bytes "ms"))
 
+-- ["start"] "mode" name "[" "period" "=" number unit "]" "{"
 unfoldable pub asModeBegin : List Letter → Item
 asModeBegin ts = cond (isA T.KeyStart (letterAt 0 ts)) (asMode true (letterAt 0 ts .start) (drop 1 ts)) (asMode false (letterAt 0 ts .start) ts)
 
--- "[" "freq" "=" number "]" of kind k; the name behind "if"; an argument
+-- "[" "freq" "=" number "]" of an activity of kind k
 abbrev pub asActivity : ℕ → List Letter → Item
 asActivity k ts = I.Activity k (letterAt 0 ts .start) (nameIn 3 ts)
 
+-- the name behind "if"; its number of arguments is counted below
 abbrev pub asGuard : List Letter → Item
 asGuard ts = I.Guard (nameIn 0 ts) 0
 
+-- arg
 abbrev pub asGuardArg : List Letter → Item
 asGuardArg ts = I.GuardArg (portIn ts)
 
--- name; a port; name ":=" port ";"; name
+-- name; its number of arguments is counted below
 abbrev pub asInvoke : List Letter → Item
 asInvoke ts = I.Invoke (nameIn 0 ts) 0
 
+-- port
 abbrev pub asArg : List Letter → Item
 asArg ts = I.Arg (portIn ts)
 
+-- name ":=" port ";"
 abbrev pub asUpdate : List Letter → Item
 asUpdate ts = I.Update (nameIn 0 ts) (portIn (drop 2 ts))
 
+-- name
 abbrev pub asSwitch : List Letter → Item
 asSwitch ts = I.Switch (nameIn 0 ts)
 
+-- "}" of a mode
 abbrev pub asModeEnd : List Letter → Item
 asModeEnd ts = I.ModeEnd
 
+-- "}" of the module
 abbrev pub asModuleEnd : List Letter → Item
 asModuleEnd ts = I.ModuleEnd
 
+-- the end of the text
 abbrev pub asEnd : List Letter → Item
 asEnd ts = I.End
 
