@@ -75,7 +75,7 @@ unknown =
     refused 6 "module M{actuator int a:=0 uses f;start mode m[period=1us]{actuator[freq=1]a:=#t.o;}}" ∷
     refused 6 "module M{actuator int a:=0 uses f;task t{uses f;}task u{output int o:=0;uses f;}start mode m[period=1us]{actuator[freq=1]a:=t.#o;}}" ∷
     refused 6 "module M{const c=1;start mode m[period=1us]{mode[freq=1]#c;}}" ∷
-    passes "module M{actuator int a:=0 uses f;task t{output int o:=0;uses f;}start mode m[period=1us]{actuator[freq=1]a:=t.o;mode[freq=1]if equal(t.o,t.o)then m;}}" ∷
+    passes "module M{actuator int a:=0 uses f;task t{uses f;}task u{output int o:=0;uses f;}start mode m[period=1us]{actuator[freq=1]a:=u.o;mode[freq=1]if equal(u.o,u.o)then m;}}" ∷
     []
 
 -- 7: type disagrees, wrong number of arguments
@@ -130,7 +130,7 @@ frequencies =
 unfoldable pub again : List Case
 again =
     refused 10 "module M{task t{uses f;}task u{uses f;}start mode m[period=1us]{task[freq=1]t();[freq=1]u();[freq=1]#t();}}" ∷
-    refused 10 "module M{sensor int s uses g;actuator int a:=0 uses f;int b:=0 uses f;start mode m[period=1us]{actuator[freq=1]a:=s;[freq=1]b:=s;actuator[freq=1]#a:=s;}}" ∷
+    refused 10 "module M{sensor int s uses g;actuator int a:=0 uses f;int b:=0 uses f;start mode m[period=1us]{actuator[freq=1]a:=s;[freq=1]b:=s;actuator[freq=1]#b:=s;}}" ∷
     refused 10 "module M{const c=true;task t{uses f;}start mode m[period=1us]{task[freq=1]if isTrue(c)then t();[freq=1]if isFalse(c)then #t();}}" ∷
     passes "module M{sensor int s uses g;actuator int a:=0 uses f;start mode m[period=1us]{actuator[freq=1]a:=s;}mode n[period=1us]{actuator[freq=1]a:=s;}}" ∷
     []
