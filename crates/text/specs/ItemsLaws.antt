@@ -143,27 +143,12 @@ asItem (some refusal) = I.No (refusal .number) (refusal .offset)
 
 -- an item that does not go on, and refuses, is that refusal
 stops : (item : Item) (number offset : ℕ) → goes item ≡ false → refusedOr item none ≡ refuse number offset → item ≡ I.No number offset
-stops (I.Module name) number offset g e = absurd (unsaid (sym g))
-stops I.Section number offset g e = absurd (unsaid (sym g))
-stops (I.Constant name value) number offset g e = absurd (unsaid (sym g))
-stops (I.Sensor typ name getter) number offset g e = absurd (unsaid (sym g))
-stops (I.Actuator typ name value setter) number offset g e = absurd (unsaid (sym g))
-stops (I.TaskBegin name) number offset g e = absurd (unsaid (sym g))
-stops (I.Input typ name) number offset g e = absurd (unsaid (sym g))
-stops (I.Output typ name value) number offset g e = absurd (unsaid (sym g))
-stops (I.TaskEnd name) number offset g e = absurd (unsaid (sym g))
-stops (I.ModeBegin start at name digits milli) number offset g e = absurd (unsaid (sym g))
-stops (I.Activity kind at digits) number offset g e = absurd (unsaid (sym g))
-stops (I.Guard name count) number offset g e = absurd (unsaid (sym g))
-stops (I.GuardArg port) number offset g e = absurd (unsaid (sym g))
-stops (I.Invoke task count) number offset g e = absurd (unsaid (sym g))
-stops (I.Arg port) number offset g e = absurd (unsaid (sym g))
-stops (I.Update actuator source) number offset g e = absurd (unsaid (sym g))
-stops (I.Switch name) number offset g e = absurd (unsaid (sym g))
-stops I.ModeEnd number offset g e = absurd (unsaid (sym g))
-stops I.ModuleEnd number offset g e = absurd (unsaid (sym g))
-stops I.End number offset g e = let z : _≡_ {A = ℕ} 0 1 = cc in absurd (omega arith)
-stops (I.No n at) number offset g e = ap asItem e
+stops item number offset g e = by (ends-here item g) g e
+  where
+    by : {item : Item} → Ends (item ∷ []) → goes item ≡ false → refusedOr item none ≡ refuse number offset → item ≡ I.No number offset
+    by at-end g e = let z : _≡_ {A = ℕ} 0 1 = cc in absurd (omega arith)
+    by (at-refusal n at) g e = ap asItem e
+    by (onward item h r) g e = absurd (unsaid (sym g ∙ h))
 
 module _ (s : List ℕ) (number offset : ℕ) where
   in-none : (state : State) (at : ℕ) → refusedIn (itemsIn zero s state at) ≡ none
