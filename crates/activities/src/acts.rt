@@ -5,7 +5,7 @@ ghost use mathlib.Core.List.{List, _++_};
 ghost use lib.ListN.{take};
 ghost use Rattle.refusals.specs.Checks.{first};
 ghost use Rattle.refusals.specs.Ports.{portRules};
-ghost use Rattle.refusals.specs.Twice.{twiceFrom};
+ghost use Rattle.refusals.specs.Twice.{twiceOf};
 ghost use Rattle.names.specs.Tables.{rowsIn};
 ghost use Rattle.names.specs.Index.{Indexed};
 ghost use Rattle.activities.specs.Kept.{callChecks, updateChecks, targetChecks};
@@ -17,12 +17,12 @@ use refusals::Verdict;
 use text::Name;
 use text::Port;
 
-// The first place from here on, of the first n numbers, whose number stands among those before it; behind the last where there is none.
-pub fn twice_from(numbers: &[usize], n: usize, from: usize) -> usize
-    ensures { λ r. ⌜ r ≡ twiceFrom (take n (now (numbers .entry))) from ⌝ }
+// A search over the pairs of the first n numbers: the first place whose number stands among those before it; behind the last where there is none.
+pub fn twice_of(numbers: &[usize], n: usize) -> usize
+    ensures { λ r. ⌜ r ≡ twiceOf (take n (now (numbers .entry))) ⌝ }
 {
     let count = frequencies::least(n, numbers.len());
-    let mut j = from;
+    let mut j = 0;
     let place = 'pairs: loop {
         if count <= j {
             break 'pairs j;

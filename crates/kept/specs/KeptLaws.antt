@@ -1,5 +1,5 @@
 -- Laws of rows: the last of each kind, and one row more in an array.
-use Prim.Native.Nat.{ℕ, zero, suc, _+_, _-_, _*_, _%_, _≤_, _<_}
+use Prim.Native.Nat.{ℕ, zero, suc, _+_, _-_, _*_, _/_, _%_, _≤_, _<_, min}
 use mathlib.Core.Path.{_≡_, refl, sym, ap, _∙_}
 use mathlib.Core.List.{List, [], _∷_, _++_, append-nil, append-assoc}
 use mathlib.Core.Bool.{Bool, true, false}
@@ -7,16 +7,20 @@ use native.Mathlib.Omega.{arith}
 use borrow.Author.Tests.{ltb-true, ltb-false}
 use borrow.Rule.Slice.PartMut.{putMid, post-is}
 use lib.Dec.{ltb}
-use lib.ListN.{length, getD, set, take, drop, length-append, drop-of-length-le, List·getD-eq-default}
+use lib.ListN.{length, getD, set, take, drop, length-set, length-append, drop-of-length-le, List·getD-eq-default}
 use lib.Seq.{sets, sets-eq, length-sets, length-take-le, take-at, drop-at, drop-append-le, drop-set-lt, drop-set-add, drop-drop, drop-length, take-set-le, getD-set-same, drop-cons}
+use Rattle.text.specs.declared.Name.{Name}
 use Rattle.text.specs.declared.State.{State}
 use Rattle.text.specs.declared.State.the-variants as Q
 use Rattle.text.specs.declared.Literal.the-variants as L
 use Rattle.text.specs.declared.Item.the-variants as I
 use Rattle.text.specs.declared.ReadItem.{ReadItem}
-use Rattle.text.specs.Items.{itemAt}
-use Rattle.kept.specs.Rows.{Fields, fieldsIn, itemOf, states, stateOf, nameOf, literals, literalOf, acts, actOf, readOf}
-use Rattle.kept.specs.Kept.{rowOf, Right, Kept, Filled, Laid}
+use Rattle.text.specs.Items.{itemAt, itemsOf}
+use Rattle.kept.specs.Rows.{Fields, states, stateOf, nameOf, literals, literalOf, acts, actOf, readOf}
+use Rattle.kept.specs.declared.Seen.{Seen}
+use Rattle.kept.specs.States.{numberOf}
+use Rattle.kept.specs.Seen.{kindOf, firstOf, seenOf, seenIn}
+use Rattle.kept.specs.Kept.{rowOf, Right, Told, Kept, Lies, Laid, Stand, RowAt, Listed, Keeps}
 
 -- row k as it is lent, from its start up to its end
 abbrev pub lentOf : List ℕ → ℕ → List ℕ
@@ -97,16 +101,6 @@ module _ (rows new : List ℕ) (many : ℕ) (long : length new ≡ 16) (h : many
   more-first : (k : ℕ) → k < many → take 16 (drop (k * 16) more) ≡ take 16 (drop (k * 16) rows)
   more-first k g = run-before new rows (many * 16) (k * 16) 16 (omega arith)
 
--- a row that is right is kept behind rows that are
-row-fills : (s rows row : List ℕ) (many : ℕ) (long : length row ≡ 16) (h : many * 16 + 16 ≤ length rows) → Right s row → Filled s rows many → Filled s (more rows row many long h) (many + 1)
-row-fills s rows row many long h right filled = record { each = λ k l. by k (ltb k many) refl l }
-  where
-    by : (k : ℕ) (c : Bool) → ltb k many ≡ c → k < many + 1 → Right s (take 16 (drop (k * 16) (more rows row many long h)))
-    by k true c l = rw (more-first rows row many long h k (ltb-true k many c)) (filled .each k (ltb-true k many c))
-    by k false c l =
-        let same : k ≡ many = omega (arith, ltb-false k many c) in
-        rw (same, more-last rows row many long h) right
-
 -- the same with the row laid in the part that was lent for it
 module _ (rows row : List ℕ) (many : ℕ) (long : length row ≡ 16) (h : many * 16 + 16 ≤ length rows) where
   abbrev pub lent : List ℕ
@@ -130,18 +124,22 @@ module _ (rows row : List ℕ) (many : ℕ) (long : length row ≡ 16) (h : many
       let z : many * 16 + 16 - many * 16 ≡ 16 = omega arith in
       rw (lent-is, z) (more-last rows row many long h)
 
-  pub lent-fills : {s : List ℕ} → Right s row → Filled s rows many → Filled s lent (many + 1)
-  lent-fills {s} right filled = rw lent-is (row-fills s rows row many long h right filled)
+  -- the new row, and those before it
+  pub lent-here : take 16 (drop (many * 16) lent) ≡ row
+  lent-here = rw lent-is (more-last rows row many long h)
+
+  pub lent-before : (k : ℕ) → k < many → take 16 (drop (k * 16) lent) ≡ take 16 (drop (k * 16) rows)
+  lent-before k g = rw lent-is (more-first rows row many long h k g)
 
   -- the first row is read from the start of the rows
-  pub lent-read : many ≡ 0 → readOf lent ≡ readOf row
-  lent-read z =
-      let start : lent ≡ row ++ drop (many * 16 + 16) rows = put-is ∙ ap (λ (n : ℕ). take (n * 16) rows ++ (row ++ drop (many * 16 + 16) rows)) z in
-      rw (start, whole row long)
+  lent-start : many ≡ 0 → lent ≡ row ++ drop (many * 16 + 16) rows
+  lent-start z = put-is ∙ ap (λ (n : ℕ). take (n * 16) rows ++ (row ++ drop (many * 16 + 16) rows)) z
 
--- fewer rows are right too
-pub filled-less : {s rows : List ℕ} {many less : ℕ} → less ≤ many → Filled s rows many → Filled s rows less
-filled-less h filled = record { each = λ k l. filled .each k (omega arith) }
+  pub lent-read : many ≡ 0 → readOf lent ≡ readOf row
+  lent-read z = rw (lent-start z, whole row long)
+
+  pub lent-seen : many ≡ 0 → seenIn lent ≡ seenIn row
+  lent-seen z = rw (lent-start z, whole row long)
 
 -- the rows behind the first sixteen numbers of an array, and their number in front
 module _ (memo rows : List ℕ) (many : ℕ) (long : length rows ≡ length memo - 16) (h : 16 ≤ length memo) where
@@ -151,23 +149,55 @@ module _ (memo rows : List ℕ) (many : ℕ) (long : length rows ≡ length memo
   behind-is : behind ≡ take 16 memo ++ rows
   behind-is = rw (post-is 16 (length memo) memo h, drop-length memo, append-nil rows)
 
-  pub behind-keeps : {s : List ℕ} → Filled s rows many → Kept s (set behind 0 many)
+  sixteen : length (take 16 memo) ≡ 16
+  sixteen = length-take-le 16 memo h
+
+  behind-long : length behind ≡ length memo
+  behind-long = rw behind-is (omega (arith, length-append (take 16 memo) rows, sixteen, long, h))
+
+  pub behind-count : getD (set behind 0 many) 0 0 ≡ many
+  behind-count = getD-set-same behind 0 many 0 (omega (arith, behind-long, h))
+
+  pub behind-row : (k : ℕ) → rowOf (set behind 0 many) k ≡ take 16 (drop (k * 16) rows)
   unfolding rowOf
-  behind-keeps {s} filled = record { each = λ k l. by k (rw count at l) }
-    where
-      sixteen : length (take 16 memo) ≡ 16
-      sixteen = length-take-le 16 memo h
+  behind-row k =
+      let e : k * 16 + 16 ≡ 16 + k * 16 = omega arith in
+      ap (λ (l : List ℕ). take 16 l) (drop-set-lt (k * 16 + 16) behind 0 many (omega arith) ∙ ap (λ (n : ℕ). drop n behind) e ∙ sym (drop-drop (k * 16) 16 behind) ∙ ap (λ (l : List ℕ). drop (k * 16) l) (ap (λ (l : List ℕ). drop 16 l) behind-is ∙ drop-at (take 16 memo) rows 16 sixteen))
 
-      count : getD (set behind 0 many) 0 0 ≡ many
-      count = getD-set-same behind 0 many 0 (rw behind-is (omega (arith, length-append (take 16 memo) rows, sixteen)))
+  -- the rows of the items of a text keep them
+  pub behind-keeps : {s : List ℕ} → Listed s (record { state = 0; at = 0 }) rows many → Keeps s (set behind 0 many)
+  unfolding stateOf
+  behind-keeps {s} listed =
+      let size : length (set behind 0 many) ≡ length memo = length-set behind 0 many ∙ behind-long in
+      record {
+        count = rw (behind-count, size) (listed .count ∙ ap (λ (n : ℕ). min (length (itemsOf s)) (n / 16)) long);
+        row = λ k l. rw (behind-row k) (listed .row k (rw behind-count at l));
+        last = λ l. rw (behind-count, behind-row (many - 1)) (listed .last);
+      }
 
-      row-is : (k : ℕ) → drop (k * 16 + 16) (set behind 0 many) ≡ drop (k * 16) rows
-      row-is k =
-          let e : k * 16 + 16 ≡ 16 + k * 16 = omega arith in
-          drop-set-lt (k * 16 + 16) behind 0 many (omega arith) ∙ ap (λ (n : ℕ). drop n behind) e ∙ sym (drop-drop (k * 16) 16 behind) ∙ ap (λ (l : List ℕ). drop (k * 16) l) (ap (λ (l : List ℕ). drop 16 l) behind-is ∙ drop-at (take 16 memo) rows 16 sixteen)
+-- ---- arrays that keep items
 
-      by : (k : ℕ) → k < many → Right s (take 16 (drop (k * 16 + 16) (set behind 0 many)))
-      by k l = rw (row-is k) (filled .each k l)
+row-right : {s : List ℕ} {b : Stand} {row : List ℕ} → RowAt s b row → Right s row × Told s row
+row-right r = (rw (r .number, r .place) (r .told), rw (r .number, r .place) (r .seen))
+
+-- an array that keeps the items of a text holds items of it alone
+pub keeps-kept : {s memo : List ℕ} → Keeps s memo → Kept s memo
+keeps-kept {s} {memo} keeps = record { each = λ k l. by k (ltb (k + 1) (getD memo 0 0)) refl l .0; seen = λ k l. by k (ltb (k + 1) (getD memo 0 0)) refl l .1 }
+  where
+    by : (k : ℕ) (c : Bool) → ltb (k + 1) (getD memo 0 0) ≡ c → k < getD memo 0 0 → Right s (rowOf memo k) × Told s (rowOf memo k)
+    by k true c l = row-right (keeps .row k (ltb-true (k + 1) (getD memo 0 0) c))
+    by k false c l =
+        let last : k ≡ getD memo 0 0 - 1 = omega (arith, ltb-false (k + 1) (getD memo 0 0) c, l) in
+        rw last (row-right (keeps .last (omega (arith, l))))
+
+-- an array without room for a row keeps none
+pub keeps-none : (s memo : List ℕ) → length memo < 32 → getD memo 0 0 ≡ 0 → Keeps s memo
+keeps-none s memo h z =
+    record {
+      count = z ∙ omega (arith, h);
+      row = λ k l. absurd (omega (arith, z, l));
+      last = λ l. absurd (omega (arith, z, l));
+    }
 
 -- what row k tells, where it was read at this place and in this state
 pub fetched : {s memo : List ℕ} (k : ℕ) {state : State} {at : ℕ} {r : ReadItem} → Kept s memo → k < getD memo 0 0 → r ≡ readOf (lentOf memo k) → stateOf (getD (lentOf memo k) 1 0) ≡ state → getD (lentOf memo k) 2 0 ≡ at
@@ -178,23 +208,28 @@ fetched {s} {memo} k {state} kept l e q p =
     let right : Right s (lentOf memo k) = rw z (kept .each k l) in
     e ∙ right ∙ ap (λ (x : State). itemAt s x (getD (lentOf memo k) 2 0)) q ∙ ap (λ (n : ℕ). itemAt s state n) p
 
--- an array without rows keeps the items of every text
-pub none-kept : (s memo : List ℕ) → getD memo 0 0 ≡ 0 → Kept s memo
-none-kept s memo z = record { each = λ k l. absurd (omega (arith, z, l)) }
+-- what a search looks at in row k, where it was read at this place and in this state
+pub looked : {s memo : List ℕ} (k : ℕ) {state at : ℕ} → Kept s memo → k < getD memo 0 0 → getD (lentOf memo k) 1 0 ≡ state → getD (lentOf memo k) 2 0 ≡ at → seenIn (lentOf memo k) ≡ seenOf (itemAt s (stateOf state) at)
+unfolding rowOf
+looked {s} {memo} k {state} kept l q p =
+    let z : k * 16 + 16 + 16 - (k * 16 + 16) ≡ 16 = omega arith in
+    let told : Told s (lentOf memo k) = rw z (kept .seen k l) in
+    told ∙ ap (λ (n : ℕ). seenOf (itemAt s (stateOf n) (getD (lentOf memo k) 2 0))) q ∙ ap (λ (n : ℕ). seenOf (itemAt s (stateOf state) n)) p
+
+seen-by : {kind start end n : ℕ} (r : ReadItem) → kind ≡ kindOf (r .item) → nameOf start end ≡ firstOf (r .item) → n ≡ numberOf (r .state) → _≡_ {A = Seen} (record { kind = kind; start = start; end = end; behind = n; next = r .next }) (seenOf r)
+seen-by r k e b = rw (k, b) (ap (λ (m : Name). (record { kind = kindOf (r .item); start = m .start; end = m .end; behind = numberOf (r .state); next = r .next })) e)
 
 -- the numbers of the states and the places beside those of an item
-pub laid-by : {s : List ℕ} {at : ℕ} {state : State} (before : ℕ) (row : List ℕ) (r : ReadItem) (n : ℕ) → length row ≡ 16 → state ≡ stateOf before → r ≡ itemAt s state at → itemOf (fieldsIn row) ≡ r .item → stateOf n ≡ r .state
+pub laid-by : {s : List ℕ} {at : ℕ} {state : State} (before : ℕ) (row : List ℕ) (r : ReadItem) (n : ℕ) → length row ≡ 16 → state ≡ stateOf before → r ≡ itemAt s state at → Lies row (r .item) → (n ≡ numberOf (r .state)) × (stateOf n ≡ r .state)
     → Laid s before at (sets row 1 (before ∷ at ∷ n ∷ r .next ∷ [])) (getD (sets row 1 (before ∷ at ∷ n ∷ r .next ∷ [])) 0 0) n (r .next)
 laid-by {s} {at} before row r n long e p i q =
+    let here : r ≡ itemAt s (stateOf before) at = p ∙ ap (λ (x : State). itemAt s x at) e in
     record {
-      told = rw (whole row long) (rw (i, q) p) ∙ ap (λ (x : State). itemAt s x at) e;
+      told = rw (whole row long) (rw (i .told, q .1) here);
+      seen = rw (whole row long) (seen-by r (i .kind) (i .name) (q .0)) ∙ ap seenOf here;
       number = rw (whole row long);
       place = rw (whole row long);
       kind = refl;
       after = rw (whole row long);
       next = rw (whole row long);
     }
-
--- such a row is right
-pub laid-right : {s : List ℕ} {before at : ℕ} {row : List ℕ} {sort beyond ahead : ℕ} → Laid s before at row sort beyond ahead → Right s row
-laid-right l = rw (l .number, l .place) (l .told)

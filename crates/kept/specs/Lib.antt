@@ -1,4 +1,5 @@
 pub mod Rows
+pub mod Seen
 pub mod Kept
 pub mod KeptLaws
 pub mod Kinds

@@ -1,6 +1,6 @@
 -- A state in two numbers: which it is, and its section.
-use Prim.Native.Nat.{ℕ, _/_, _%_, _<_}
-use mathlib.Core.Path.{_≡_, refl}
+use Prim.Native.Nat.{ℕ, _+_, _*_, _/_, _%_, _<_}
+use mathlib.Core.Path.{_≡_}
 use native.Mathlib.Omega.{arith}
 use Rattle.text.specs.declared.State.{State}
 use Rattle.text.specs.declared.State.the-variants as Q
@@ -28,6 +28,10 @@ sectionOf (Q.GuardArgs k) = k
 sectionOf Q.Args = 0
 sectionOf Q.Finish = 0
 
+-- the number of a state: which it is, and in front of that its section
+abbrev pub numberOf : State → ℕ
+numberOf q = sectionOf q * 16 + whichOf q
+
 pub which-small : (q : State) → whichOf q < 16
 which-small Q.Begin = omega arith
 which-small (Q.Module k) = omega arith
@@ -51,3 +55,7 @@ state-by (Q.Guarded j) n w k = rw (w, k)
 state-by (Q.GuardArgs j) n w k = rw (w, k)
 state-by Q.Args n w k = rw w
 state-by Q.Finish n w k = rw w
+
+-- a state is that of its number, a section being a byte
+pub number-state : (q : State) → sectionOf q < 256 → stateOf (numberOf q) ≡ q
+number-state q h = state-by q (numberOf q) (omega (arith, which-small q)) (omega (arith, which-small q, h))

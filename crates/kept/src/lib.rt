@@ -1,11 +1,12 @@
 // The items of a text, kept in an array of numbers that is lent: the first pass fills it, and later walks fetch from it.
-// Promises that an item fetched is the item of the text at its place and state, for every array that the first pass left, and that the first pass answers with the leftmost 2 or 3.
+// Promises that the first pass answers with the leftmost 2 or 3 and keeps the items of the text in their order, as many as the array has room for, and that an item fetched is the item of the text at its place and state, for every array that the first pass left.
 // Builds on the items of a text.
 ghost use Prim.Native.Nat.{_-_, _/_, min};
 ghost use lib.ListN.{length, getD};
 ghost use mathlib.Core.Path.{_≡_};
 ghost use Rattle.text.specs.Items.{itemAt};
 ghost use Rattle.kept.specs.Rows.{stateOf, readOf};
+ghost use Rattle.kept.specs.Seen.{seenOf, seenIn};
 ghost use Rattle.kept.specs.Kept.{Kept, Looked};
 
 // What a search for a name looks at in a row: its kind, where its first name starts and ends, and the state and the place behind it.
@@ -56,7 +57,7 @@ fn held(memo: &[usize]) -> usize
 
 // The row of the item that is read at a place, in a state by its number.
 fn anew(s: &[u8], number: usize, at: usize, row: &mut [usize; 16])
-    ensures { λ _. ⌜ readOf (now (row .exit)) ≡ itemAt (now (s .entry)) (stateOf number) at ⌝ }
+    ensures { λ _. ⌜ (readOf (now (row .exit)) ≡ itemAt (now (s .entry)) (stateOf number) at) × (seenIn (now (row .exit)) ≡ seenOf (itemAt (now (s .entry)) (stateOf number) at)) ⌝ }
 {
     let _passed = pass::walk(s, row, number, at, 1);
 }
@@ -89,7 +90,8 @@ pub fn fetch<'a>(
 
 // What a search looks at in the item at a place, in a state by its number: as it stands in row k where that is of this place and state.
 pub fn look<'a>(s: &'a [u8], memo: &'a [usize], k: usize, state: usize, at: usize) -> Seen
-    ensures { λ r. ⌜ (Kept (now (s .entry)) (now (memo .entry)) → Looked (now (s .entry)) state at (r .kind) (r .start) (r .end) (r .behind) (r .next)) ⌝ }
+    ensures seen { λ r. ⌜ (Kept (now (s .entry)) (now (memo .entry)) → r ≡ seenOf (itemAt (now (s .entry)) (stateOf state) at)) ⌝ }
+    ensures row { λ r. ⌜ (Kept (now (s .entry)) (now (memo .entry)) → Looked (now (s .entry)) state at (r .kind) (r .start) (r .end) (r .behind) (r .next)) ⌝ }
 {
     let rows = held(memo);
     if k < rows {

@@ -4,7 +4,7 @@ ghost use lib.ListN.{length, getD};
 ghost use mathlib.Core.Path.{_≡_};
 ghost use Rattle.text.specs.Items.{syntaxOf};
 ghost use Rattle.items.specs.Answers.{answered};
-ghost use Rattle.kept.specs.Kept.{Kept};
+ghost use Rattle.kept.specs.Kept.{Kept, Keeps};
 ghost use Rattle.kept.specs.Passes.{Walked, endOf};
 use super::states;
 use super::storing;
@@ -83,10 +83,11 @@ pub(crate) fn walk(s: &[u8], rows: &mut [usize], state: usize, place: usize, tur
     }
 }
 
-// The leftmost 2 or 3 of a text; the array keeps its items.
+// The leftmost 2 or 3 of a text; the array keeps its items in order, as many as it has room for, and in the last row the last item.
 pub fn syntax(s: &[u8], memo: &mut [usize]) -> FirstPass
     ensures answer { λ r. ⌜ r ≡ answered (syntaxOf (now (s .entry))) ⌝ }
     ensures kept { λ _. ⌜ Kept (now (s .entry)) (now (memo .exit)) ⌝ }
+    ensures items { λ _. ⌜ Keeps (now (s .entry)) (now (memo .exit)) ⌝ }
 {
     let room = memo.len();
     let turns = s.len() + 1;

@@ -1,8 +1,8 @@
 // A state as one number: which it is, and behind that the number of its section.
-ghost use Prim.Native.Nat.{_+_, _*_, _/_, _%_, _<_};
+ghost use Prim.Native.Nat.{_+_, _*_, _%_, _<_};
 ghost use mathlib.Core.Path.{_≡_};
 ghost use Rattle.kept.specs.Rows.{stateOf};
-ghost use Rattle.kept.specs.States.{whichOf, sectionOf};
+ghost use Rattle.kept.specs.States.{whichOf, sectionOf, numberOf};
 use text::State;
 
 pub fn wide(number: u8) -> usize
@@ -20,7 +20,7 @@ pub fn narrow(number: usize) -> u8
 // A state's own number beside that of a section.
 fn beside(which: usize, section: u8) -> usize
     requires { ⌜ which < 16 ⌝ }
-    ensures { λ r. ⌜ (r % 16 ≡ which) × (r / 16 % 256 ≡ section) ⌝ }
+    ensures { λ r. ⌜ (r ≡ section * 16 + which) × (section < 256) ⌝ }
 {
     let behind = wide(section);
     behind * 16 + which
@@ -62,7 +62,8 @@ fn section(state: State) -> u8
 
 // The number of a state.
 pub fn number_of(state: State) -> usize
-    ensures { λ r. ⌜ stateOf r ≡ state ⌝ }
+    ensures number { λ r. ⌜ r ≡ numberOf state ⌝ }
+    ensures state { λ r. ⌜ stateOf r ≡ state ⌝ }
 {
     let own = which(state);
     let behind = section(state);

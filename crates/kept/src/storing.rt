@@ -3,8 +3,8 @@ ghost use Prim.Native.Nat.{_%_};
 ghost use lib.Dec.{eqb};
 ghost use lib.ListN.{length, getD};
 ghost use mathlib.Core.Path.{_≡_};
-ghost use Rattle.kept.specs.Rows.{nameAt, literalAt, portAt, literalOf, itemOf, fieldsIn};
-ghost use Rattle.kept.specs.Kept.{Laid};
+ghost use Rattle.kept.specs.Rows.{nameOf, nameAt, literalAt, portAt, literalOf};
+ghost use Rattle.kept.specs.Kept.{Lies, Laid};
 use super::states;
 use text::Item;
 use text::Literal;
@@ -71,12 +71,14 @@ fn value_of(literal: Literal) -> Value
     }
 }
 
-// A kind alone.
+// A kind, and no name.
 fn plain(row: &mut [usize], kind: usize)
     requires { ⌜ length (now row) ≡ 16 ⌝ }
-    ensures { λ _. ⌜ getD (now (row .exit)) 0 0 ≡ kind ⌝ }
+    ensures { λ _. ⌜ (getD (now (row .exit)) 0 0 ≡ kind) × (nameAt (now (row .exit)) 5 ≡ nameOf 0 0) ⌝ }
 {
     row[0] = kind;
+    row[5] = 0;
+    row[6] = 0;
 }
 
 // A kind and a name.
@@ -214,10 +216,12 @@ fn update(row: &mut [usize], actuator: Name, source: Port)
 // The number and the place of a refusal.
 fn refused(row: &mut [usize], number: u8, at: usize)
     requires { ⌜ length (now row) ≡ 16 ⌝ }
-    ensures { λ _. ⌜ (getD (now (row .exit)) 0 0 ≡ 20) × (getD (now (row .exit)) 7 0 % 256 ≡ number) × (getD (now (row .exit)) 8 0 ≡ at) ⌝ }
+    ensures { λ _. ⌜ (getD (now (row .exit)) 0 0 ≡ 20) × (nameAt (now (row .exit)) 5 ≡ nameOf 0 0) × (getD (now (row .exit)) 7 0 % 256 ≡ number) × (getD (now (row .exit)) 8 0 ≡ at) ⌝ }
 {
     let refusal = states::wide(number);
     row[0] = 20;
+    row[5] = 0;
+    row[6] = 0;
     row[7] = refusal;
     row[8] = at;
 }
@@ -225,7 +229,7 @@ fn refused(row: &mut [usize], number: u8, at: usize)
 // The kind and the numbers of an item.
 fn lay(row: &mut [usize], item: Item)
     requires { ⌜ length (now row) ≡ 16 ⌝ }
-    ensures { λ _. ⌜ itemOf (fieldsIn (now (row .exit))) ≡ item ⌝ }
+    ensures { λ _. ⌜ Lies (now (row .exit)) item ⌝ }
 {
     match item {
         Item::Module(name) => named(row, 0, name),

@@ -8,14 +8,14 @@ use mathlib.Core.Bool.{Bool, true, false, cond}
 use borrow.Author.Tests.{lt-ltb, eq-eqb, ne-eqb}
 use lib.Dec.{eqb}
 use lib.ListN.{length, take, set, length-set, length-append, length-map}
-use lib.Seq.{take-set-le, take-suc-set, take-append-seam, getD-append-seam}
+use lib.Seq.{take-set-le, take-suc-set}
 use Rattle.text.specs.declared.Name.{Name}
 use Rattle.model.specs.Rooms.{activityRoom, periodRoom}
 use Rattle.model.specs.Modules.{Mode, Act, Call, Update}
 use Rattle.refusals.specs.declared.Verdict.the-variants.{Fine}
 use Rattle.refusals.specs.Checks.{first}
 use Rattle.refusals.specs.Refusals.{among}
-use Rattle.refusals.specs.Twice.{twiceIn, twiceFrom, twiceOf, twice-on, twice-out, twice-end, twice-more}
+use Rattle.refusals.specs.Twice.{twiceIn, twiceOf, twice-more}
 use Rattle.refusals.specs.Values.{numberOf}
 use Rattle.refusals.specs.Activities.{periodAt, periodRules, activitiesIn, frequenciesIn, invokedIn, updatedIn}
 use Rattle.refusals.specs.Draft.{withCall, withUpdate, withSwitch, withSource, lastSourced}
@@ -53,21 +53,16 @@ holds-more number {array} {after} {count} {numbers} e h l =
       long = rw e (length-set array count number ∙ h .long);
     }
 
--- the search for a pair from the last on finds it just where it stands among those before it
-pub last-again : (numbers : List ℕ) (number : ℕ) → eqb (twiceFrom (numbers ++ (number ∷ [])) (length numbers)) (length numbers) ≡ among number numbers
-last-again numbers number = by (among number numbers) refl
+-- where no two are the same, the search for a pair with one more yields its place just where it stands among those before it
+pub last-again : (numbers : List ℕ) (number : ℕ) → twiceOf numbers ≡ length numbers → eqb (twiceOf (numbers ++ (number ∷ []))) (length numbers) ≡ among number numbers
+last-again numbers number once = by (among number numbers) refl
   where
-    all : List ℕ
-    all = numbers ++ (number ∷ [])
+    found : (b : Bool) → among number numbers ≡ b → twiceOf (numbers ++ (number ∷ [])) ≡ cond b (length numbers) (length numbers + 1)
+    found b q = twice-more numbers number once ∙ rw q
 
-    long : length all ≡ length numbers + 1
-    long = length-append numbers (number ∷ [])
-
-    by : (b : Bool) → among number numbers ≡ b → eqb (twiceFrom all (length numbers)) (length numbers) ≡ b
-    by true q = eq-eqb (twiceFrom all (length numbers)) (length numbers) (twice-out all (length numbers) (omega (arith, long)) (rw (getD-append-seam numbers number [] 0, take-append-seam numbers (number ∷ [])) q))
-    by false q =
-        let on = twice-on all (length numbers) (omega (arith, long)) (rw (getD-append-seam numbers number [] 0, take-append-seam numbers (number ∷ [])) q) ∙ twice-end all (length numbers + 1) (omega (arith, long)) in
-        ne-eqb (twiceFrom all (length numbers)) (length numbers) (λ z. omega (arith, z, on))
+    by : (b : Bool) → among number numbers ≡ b → eqb (twiceOf (numbers ++ (number ∷ []))) (length numbers) ≡ b
+    by true q = eq-eqb (twiceOf (numbers ++ (number ∷ []))) (length numbers) (found true q)
+    by false q = ne-eqb (twiceOf (numbers ++ (number ∷ []))) (length numbers) (λ z. omega (arith, z, found false q))
 
 -- where it does not, no two are the same
 once-more : (numbers : List ℕ) (number : ℕ) → twiceOf numbers ≡ length numbers → among number numbers ≡ false → twiceOf (numbers ++ (number ∷ [])) ≡ length (numbers ++ (number ∷ []))

@@ -1,8 +1,7 @@
 // What an activity does, and its guard.
 ghost use mathlib.Core.Path.{_≡_};
-ghost use Rattle.text.specs.declared.Token.{Token};
-ghost use Rattle.text.specs.Productions.{guardAt, guardArgAt, invokeAt, argAt, updateAt, switchAt};
-ghost use Rattle.productions.specs.Behind.{Behind};
+ghost use Rattle.text.specs.Productions.{guardArgAt, argAt};
+ghost use Rattle.productions.specs.Behind.{guardBehind, invokeBehind, updateBehind, switchBehind};
 use super::close;
 use super::lists;
 use super::name_of;
@@ -15,7 +14,7 @@ use text::Token;
 
 // "if", which is read, name "(", and ")" "then" where it has no argument
 pub fn guard(s: &[u8], k: u8, word: Got) -> ReadItem
-    ensures { λ r. ⌜ Behind Token.KeyIf (now (s .entry)) word (guardAt (now (s .entry)) k) r ⌝ }
+    ensures { λ r. ⌜ r ≡ guardBehind (now (s .entry)) k word ⌝ }
 {
     let name = wants::next(s, word, Token::Name);
     let paren = wants::next(s, name, Token::LeftParen);
@@ -63,7 +62,7 @@ pub fn guard_arg(s: &[u8], k: u8, g: Got) -> ReadItem
 
 // name, which is read, "(", and ")" ";" where it has no port
 pub fn invoke(s: &[u8], name: Got) -> ReadItem
-    ensures { λ r. ⌜ Behind Token.Name (now (s .entry)) name (invokeAt (now (s .entry))) r ⌝ }
+    ensures { λ r. ⌜ r ≡ invokeBehind (now (s .entry)) name ⌝ }
 {
     let paren = wants::next(s, name, Token::LeftParen);
     let at = paren.end;
@@ -110,7 +109,7 @@ pub fn arg(s: &[u8], g: Got) -> ReadItem
 
 // name, which is read, ":=" port ";"
 pub fn update(s: &[u8], name: Got) -> ReadItem
-    ensures { λ r. ⌜ Behind Token.Name (now (s .entry)) name (updateAt (now (s .entry))) r ⌝ }
+    ensures { λ r. ⌜ r ≡ updateBehind (now (s .entry)) name ⌝ }
 {
     let becomes = wants::next(s, name, Token::Becomes);
     let read = ports::read(s, becomes);
@@ -130,7 +129,7 @@ pub fn update(s: &[u8], name: Got) -> ReadItem
 
 // name, which is read, ";"
 pub fn switch(s: &[u8], name: Got) -> ReadItem
-    ensures { λ r. ⌜ Behind Token.Name (now (s .entry)) name (switchAt (now (s .entry))) r ⌝ }
+    ensures { λ r. ⌜ r ≡ switchBehind (now (s .entry)) name ⌝ }
 {
     let last = wants::next(s, name, Token::Semicolon);
     close(Item::Switch(name_of(name)), State::Mode(4), last)

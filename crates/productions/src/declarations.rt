@@ -1,8 +1,7 @@
 // The module's head and its declarations: constants, sensors and actuators.
 ghost use mathlib.Core.Path.{_≡_};
-ghost use Rattle.text.specs.declared.Token.{Token};
-ghost use Rattle.text.specs.Productions.{moduleAt, constantAt, sensorAt, actuatorAt};
-ghost use Rattle.productions.specs.Behind.{Behind};
+ghost use Rattle.text.specs.Productions.{moduleAt};
+ghost use Rattle.productions.specs.Behind.{constantBehind, sensorBehind, actuatorBehind};
 use super::close;
 use super::literals;
 use super::name_of;
@@ -24,7 +23,7 @@ pub fn module(s: &[u8], g: Got) -> ReadItem
 
 // name, which is read, "=" value ";"
 pub fn constant(s: &[u8], name: Got) -> ReadItem
-    ensures { λ r. ⌜ Behind Token.Name (now (s .entry)) name (constantAt (now (s .entry))) r ⌝ }
+    ensures { λ r. ⌜ r ≡ constantBehind (now (s .entry)) name ⌝ }
 {
     let equals = wants::next(s, name, Token::Equals);
     let read = literals::read(s, equals);
@@ -42,7 +41,7 @@ pub fn constant(s: &[u8], name: Got) -> ReadItem
 
 // type, which is read, name "uses" name ";"
 pub fn sensor(s: &[u8], typ: Got) -> ReadItem
-    ensures { λ r. ⌜ Behind Token.Name (now (s .entry)) typ (sensorAt (now (s .entry))) r ⌝ }
+    ensures { λ r. ⌜ r ≡ sensorBehind (now (s .entry)) typ ⌝ }
 {
     let name = wants::next(s, typ, Token::Name);
     let uses = wants::next(s, name, Token::KeyUses);
@@ -58,7 +57,7 @@ pub fn sensor(s: &[u8], typ: Got) -> ReadItem
 
 // type, which is read, name ":=" value "uses" name ";"
 pub fn actuator(s: &[u8], typ: Got) -> ReadItem
-    ensures { λ r. ⌜ Behind Token.Name (now (s .entry)) typ (actuatorAt (now (s .entry))) r ⌝ }
+    ensures { λ r. ⌜ r ≡ actuatorBehind (now (s .entry)) typ ⌝ }
 {
     let name = wants::next(s, typ, Token::Name);
     let becomes = wants::next(s, name, Token::Becomes);

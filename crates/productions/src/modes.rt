@@ -1,10 +1,8 @@
 // Mode: its head, and the head of an activity in it.
 ghost use mathlib.Core.Path.{_≡_};
 ghost use Rattle.text.specs.Expect.{either as eitherOf};
-ghost use Rattle.text.specs.declared.Token.{Token};
-ghost use Rattle.text.specs.Tokens.{tokenAt};
-ghost use Rattle.text.specs.Productions.{modeOf, modeAt, activityAt};
-ghost use Rattle.productions.specs.Behind.{Behind};
+ghost use Rattle.text.specs.Productions.{modeOf};
+ghost use Rattle.productions.specs.Behind.{activityBehind, modeBehind};
 use super::close;
 use super::name_of;
 use text::Got;
@@ -51,7 +49,7 @@ fn behind(s: &[u8], start: bool, at: usize, word: Got) -> ReadItem
 
 // ["start"] "mode" and what follows; the first token is found
 pub fn begin(s: &[u8], g: Got, found: Lexed) -> ReadItem
-    ensures { λ r. ⌜ (found ≡ tokenAt (now (s .entry)) (g .end) → r ≡ modeAt (now (s .entry)) g) ⌝ }
+    ensures { λ r. ⌜ r ≡ modeBehind (now (s .entry)) found g ⌝ }
 {
     if wants::stands(found, Token::KeyStart) {
         let start = wants::given_any(g, found);
@@ -64,7 +62,7 @@ pub fn begin(s: &[u8], g: Got, found: Lexed) -> ReadItem
 
 // "[", which is read, "freq" "=" number "]", in section k
 pub fn activity(s: &[u8], k: u8, bracket: Got) -> ReadItem
-    ensures { λ r. ⌜ Behind Token.LeftBracket (now (s .entry)) bracket (activityAt (now (s .entry)) k) r ⌝ }
+    ensures { λ r. ⌜ r ≡ activityBehind (now (s .entry)) k bracket ⌝ }
 {
     let freq = wants::word(s, bracket, b"freq");
     let equals = wants::next(s, freq, Token::Equals);

@@ -1,8 +1,6 @@
 // Task: name "{" {"input" {type name ";"}} {"output" {type name ":=" value ";"}} "uses" name ";" "}".
 ghost use mathlib.Core.Path.{_≡_};
-ghost use Rattle.text.specs.declared.Token.{Token};
-ghost use Rattle.text.specs.Productions.{taskAt, inputAt, outputAt, taskEndAt};
-ghost use Rattle.productions.specs.Behind.{Behind};
+ghost use Rattle.productions.specs.Behind.{taskBehind, inputBehind, outputBehind, taskEndBehind};
 use super::close;
 use super::literals;
 use super::name_of;
@@ -14,7 +12,7 @@ use text::Token;
 
 // "task", which is read, name "{"
 pub fn begin(s: &[u8], word: Got) -> ReadItem
-    ensures { λ r. ⌜ Behind Token.KeyTask (now (s .entry)) word (taskAt (now (s .entry))) r ⌝ }
+    ensures { λ r. ⌜ r ≡ taskBehind (now (s .entry)) word ⌝ }
 {
     let name = wants::next(s, word, Token::Name);
     let last = wants::next(s, name, Token::LeftBrace);
@@ -23,7 +21,7 @@ pub fn begin(s: &[u8], word: Got) -> ReadItem
 
 // type, which is read, name ";"
 pub fn input(s: &[u8], typ: Got) -> ReadItem
-    ensures { λ r. ⌜ Behind Token.Name (now (s .entry)) typ (inputAt (now (s .entry))) r ⌝ }
+    ensures { λ r. ⌜ r ≡ inputBehind (now (s .entry)) typ ⌝ }
 {
     let name = wants::next(s, typ, Token::Name);
     let last = wants::next(s, name, Token::Semicolon);
@@ -39,7 +37,7 @@ pub fn input(s: &[u8], typ: Got) -> ReadItem
 
 // type, which is read, name ":=" value ";"
 pub fn output(s: &[u8], typ: Got) -> ReadItem
-    ensures { λ r. ⌜ Behind Token.Name (now (s .entry)) typ (outputAt (now (s .entry))) r ⌝ }
+    ensures { λ r. ⌜ r ≡ outputBehind (now (s .entry)) typ ⌝ }
 {
     let name = wants::next(s, typ, Token::Name);
     let becomes = wants::next(s, name, Token::Becomes);
@@ -56,7 +54,7 @@ pub fn output(s: &[u8], typ: Got) -> ReadItem
 
 // "uses", which is read, name ";" "}"
 pub fn end(s: &[u8], uses: Got) -> ReadItem
-    ensures { λ r. ⌜ Behind Token.KeyUses (now (s .entry)) uses (taskEndAt (now (s .entry))) r ⌝ }
+    ensures { λ r. ⌜ r ≡ taskEndBehind (now (s .entry)) uses ⌝ }
 {
     let name = wants::next(s, uses, Token::Name);
     let semicolon = wants::next(s, name, Token::Semicolon);

@@ -18,7 +18,7 @@ use Rattle.model.specs.Rooms.{activityRoom}
 use Rattle.refusals.specs.declared.Row.{Row}
 use Rattle.refusals.specs.Names.{taskScope, inputSort, noType, isPortOf, types}
 use Rattle.refusals.specs.Refusals.{among}
-use Rattle.refusals.specs.Twice.{twiceFrom}
+use Rattle.refusals.specs.Twice.{twiceOf}
 use Rattle.refusals.specs.Values.{numberOf}
 use Rattle.refusals.specs.Declarations.{rowsAfter}
 use Rattle.refusals.specs.Ports.{taskNamed, portRules, argumentRules}
@@ -83,12 +83,12 @@ pub pair-first : (left operand : ℕ) → (left ≡ 0 → ⊥) → operand ≡ g
 pair-first zero operand h = absurd (h refl)
 pair-first (suc left) operand h = refl
 
--- the search for a pair from the last number on finds it just where it stands among those before it
-again-told : (number : ℕ) {before after : List ℕ} {many : ℕ} {numbers : List ℕ} → after ≡ set before many number → Holds before many numbers → many < activityRoom
-    → eqb (twiceFrom (take (oneMore activityRoom many) after) many) many ≡ among number numbers
-again-told number {before} {after} {many} {numbers} e h l =
+-- the search for a pair yields the last number's place just where it stands among those before it
+again-told : (number : ℕ) {before after : List ℕ} {many : ℕ} {numbers : List ℕ} → after ≡ set before many number → Holds before many numbers → twiceOf numbers ≡ length numbers → many < activityRoom
+    → eqb (twiceOf (take (oneMore activityRoom many) after)) many ≡ among number numbers
+again-told number {before} {after} {many} {numbers} e h once l =
     let more = holds-more number e h l in
-    ap (λ (list : List ℕ). eqb (twiceFrom list many) many) (more .first-are) ∙ ap (λ (last : ℕ). eqb (twiceFrom (numbers ++ (number ∷ [])) last) last) (h .many) ∙ last-again numbers number
+    ap (λ (list : List ℕ). eqb (twiceOf list) many) (more .first-are) ∙ ap (λ (last : ℕ). eqb (twiceOf (numbers ++ (number ∷ []))) last) (h .many) ∙ last-again numbers number once
 
 module _ {s : List ℕ} {all : List Row} {env : Env} {state : State} {at : ℕ} {known : Known} {cells : List ℕ} {n : ℕ} {rates tasks aims : List ℕ} where
   pub head-same : {kind begin : ℕ} {digits : Name} (m : Meets s all env state at known (I.Activity kind begin digits) cells n rates tasks aims)
@@ -112,22 +112,22 @@ module _ {s : List ℕ} {all : List Row} {env : Env} {state : State} {at : ℕ} 
       rw (m .rowed .same, w .inputs, getD-drop (known .index) (types (isPortOf (taskScope (known .task)) inputSort) (env .rows)) 0 noType, add-zero (known .index))
 
   pub call-same : {name : Name} {many : ℕ} (m : Meets s all env state at known (I.Invoke name many) cells n rates tasks aims)
-      → callChecks (rowsIn cells n) (eqb (twiceFrom (take (oneMore activityRoom (known .calls)) tasks) (known .calls)) (known .calls)) (taskNamed s (rowsIn cells n) name) name many ≡ rules s all env (I.Invoke name many)
+      → callChecks (rowsIn cells n) (eqb (twiceOf (take (oneMore activityRoom (known .calls)) tasks)) (known .calls)) (taskNamed s (rowsIn cells n) name) name many ≡ rules s all env (I.Invoke name many)
   unfolding callChecks invokeRules
   call-same {name} {many} m =
       let d = m .drafted .mode in
       let room = invoke-asked (env .rows) (env .draft) known (m .comes refl) (m .drafted .asks) in
-      let again = again-told (m .laid .task) (m .laid .tasked) (d .held-tasks) (omega (arith, calls-many d, room)) in
+      let again = again-told (m .laid .task) (m .laid .tasked) (d .held-tasks) (d .tasks-once) (omega (arith, calls-many d, room)) in
       rw (m .rowed .same, again, m .laid .invokes name many refl .1)
 
   pub update-same : {name : Name} {source : Port} (m : Meets s all env state at known (I.Update name source) cells n rates tasks aims)
-      → updateChecks (eqb (twiceFrom (take (oneMore activityRoom (known .updates)) aims) (known .updates)) (known .updates)) (actuatorNamed s (rowsIn cells n) name) name ++ portRules s (rowsIn cells n) (actuatorNamed s (rowsIn cells n) name .typ) source
+      → updateChecks (eqb (twiceOf (take (oneMore activityRoom (known .updates)) aims)) (known .updates)) (actuatorNamed s (rowsIn cells n) name) name ++ portRules s (rowsIn cells n) (actuatorNamed s (rowsIn cells n) name .typ) source
       ≡ rules s all env (I.Update name source)
   unfolding updateChecks actuatorRules
   update-same {name} {source} m =
       let d = m .drafted .mode in
       let room = update-asked (env .rows) (env .draft) known (m .comes refl) (m .drafted .asks) in
-      let again = again-told (m .laid .aim) (m .laid .aimed) (d .held-aims) (omega (arith, updates-many d, room)) in
+      let again = again-told (m .laid .aim) (m .laid .aimed) (d .held-aims) (d .aims-once) (omega (arith, updates-many d, room)) in
       rw (m .rowed .same, again, m .laid .updates name source refl)
 
   pub switch-same : {name : Name} (m : Meets s all env state at known (I.Switch name) cells n rates tasks aims)

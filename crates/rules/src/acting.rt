@@ -13,7 +13,7 @@ ghost use Rattle.refusals.specs.Values.{numberOf};
 ghost use Rattle.refusals.specs.Declarations.{newRules};
 ghost use Rattle.refusals.specs.Ports.{taskNamed, portRules, argumentNamed, argumentRules};
 ghost use Rattle.refusals.specs.Activities.{startRules, periodRules, actuatorNamed, guardRules, functionNamed, endRules};
-ghost use Rattle.refusals.specs.Twice.{twiceFrom};
+ghost use Rattle.refusals.specs.Twice.{twiceOf};
 ghost use Rattle.kept.specs.Kept.{Kept};
 ghost use Rattle.kept.specs.Rows.{stateOf, nameAt, portAt};
 ghost use Rattle.names.specs.Index.{Indexed};
@@ -165,7 +165,7 @@ pub(crate) fn invoked(
     known: Known,
     row: &[usize; 16],
 ) -> Turn
-    ensures told { λ r. ⌜ (Indexed (now (s .entry)) (now (cells .entry)) → r ≡ turnOf n (first (callChecks (rowsIn (now (cells .entry)) n) (eqb (twiceFrom (take (oneMore activityRoom (known .calls)) (now (tasks .exit))) (known .calls)) (known .calls)) (taskNamed (now (s .entry)) (rowsIn (now (cells .entry)) n) (nameAt (now (row .entry)) 5)) (nameAt (now (row .entry)) 5) (getD (now (row .entry)) 7 0))) (invokedBy known (taskNamed (now (s .entry)) (rowsIn (now (cells .entry)) n) (nameAt (now (row .entry)) 5) .value))) ⌝ }
+    ensures told { λ r. ⌜ (Indexed (now (s .entry)) (now (cells .entry)) → r ≡ turnOf n (first (callChecks (rowsIn (now (cells .entry)) n) (eqb (twiceOf (take (oneMore activityRoom (known .calls)) (now (tasks .exit)))) (known .calls)) (taskNamed (now (s .entry)) (rowsIn (now (cells .entry)) n) (nameAt (now (row .entry)) 5)) (nameAt (now (row .entry)) 5) (getD (now (row .entry)) 7 0))) (invokedBy known (taskNamed (now (s .entry)) (rowsIn (now (cells .entry)) n) (nameAt (now (row .entry)) 5) .value))) ⌝ }
     ensures arrays { λ r. ⌜ (Indexed (now (s .entry)) (now (cells .entry)) → (now (rates .exit) ≡ set (now (rates .entry)) (known .calls) (known .frequency)) × (now (tasks .exit) ≡ set (now (tasks .entry)) (known .calls) (taskNamed (now (s .entry)) (rowsIn (now (cells .entry)) n) (nameAt (now (row .entry)) 5) .value))) ⌝ }
 {
     let name = kept::first_name(row);
@@ -173,7 +173,7 @@ pub(crate) fn invoked(
     laying::put(rates, known.calls, known.frequency);
     laying::put(tasks, known.calls, task.value);
     let all = noting::more(32, known.calls);
-    let place = acts::twice_from(tasks, all, known.calls);
+    let place = acts::twice_of(tasks, all);
     let verdict = acts::call_rules(cells, n, place == known.calls, task, name, row[7]);
     let next = noting::invoked(known, task.value);
     turned(n, verdict, next)
@@ -207,7 +207,7 @@ pub(crate) fn updated(
     known: Known,
     row: &[usize; 16],
 ) -> Turn
-    ensures told { λ r. ⌜ (Indexed (now (s .entry)) (now (cells .entry)) → r ≡ turnOf n (first (updateChecks (eqb (twiceFrom (take (oneMore activityRoom (known .updates)) (now (aims .exit))) (known .updates)) (known .updates)) (actuatorNamed (now (s .entry)) (rowsIn (now (cells .entry)) n) (nameAt (now (row .entry)) 5)) (nameAt (now (row .entry)) 5) ++ portRules (now (s .entry)) (rowsIn (now (cells .entry)) n) (actuatorNamed (now (s .entry)) (rowsIn (now (cells .entry)) n) (nameAt (now (row .entry)) 5) .typ) (portAt (now (row .entry)) 7))) (updatedBy known)) ⌝ }
+    ensures told { λ r. ⌜ (Indexed (now (s .entry)) (now (cells .entry)) → r ≡ turnOf n (first (updateChecks (eqb (twiceOf (take (oneMore activityRoom (known .updates)) (now (aims .exit)))) (known .updates)) (actuatorNamed (now (s .entry)) (rowsIn (now (cells .entry)) n) (nameAt (now (row .entry)) 5)) (nameAt (now (row .entry)) 5) ++ portRules (now (s .entry)) (rowsIn (now (cells .entry)) n) (actuatorNamed (now (s .entry)) (rowsIn (now (cells .entry)) n) (nameAt (now (row .entry)) 5) .typ) (portAt (now (row .entry)) 7))) (updatedBy known)) ⌝ }
     ensures arrays { λ r. ⌜ (Indexed (now (s .entry)) (now (cells .entry)) → now (aims .exit) ≡ set (now (aims .entry)) (known .updates) (actuatorNamed (now (s .entry)) (rowsIn (now (cells .entry)) n) (nameAt (now (row .entry)) 5) .value)) ⌝ }
 {
     let name = kept::first_name(row);
@@ -215,7 +215,7 @@ pub(crate) fn updated(
     let actuator = meanings::named(s, cells, n, Scope::Numbered(0), 2, name);
     laying::put(aims, known.updates, actuator.value);
     let all = noting::more(32, known.updates);
-    let place = acts::twice_from(aims, all, known.updates);
+    let place = acts::twice_of(aims, all);
     let verdict = acts::update_rules(s, cells, n, place == known.updates, actuator, name, source);
     let next = noting::updated(known);
     turned(n, verdict, next)

@@ -7,7 +7,7 @@ walk-requires : tie.Need-walk-requires
 walk-requires c κs = search needs
 
 returns : tie.Need-returns
-returns c = c .walk .ensures .single refl
+returns c = (c .walk .ensures .single refl, c .walk .ensures .seen refl)
 
 pub anew-spec : {M : Type 1} → statement M
 anew-spec = tie.close (tie.spec walk-requires returns)

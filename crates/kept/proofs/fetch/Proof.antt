@@ -50,7 +50,7 @@ anew-requires : tie.Need-anew-requires
 anew-requires c κs = search needs
 
 returns-2 : tie.Need-returns-2
-returns-2 c = λ kept. c .anew .ensures
+returns-2 c = λ kept. c .anew .ensures .0
 
 pub fetch-spec : {M : Type 1} → statement M
 fetch-spec =

@@ -2,7 +2,7 @@ use Prim.Native.Nat.{_<_}
 use mathlib.Core.Path.{refl, ap}
 use lib.ListN.{getD}
 use Rattle.kept.specs.Rows.{stateOf}
-use Rattle.kept.specs.KeptLaws.{lentOf, fetched}
+use Rattle.kept.specs.KeptLaws.{lentOf, fetched, looked}
 use native.Mathlib.Omega.{arith}
 use borrow.Author.Needs.{needs}
 use Rattle.kept.proofs.look.Statement.{statement}
@@ -54,18 +54,22 @@ shared-slice-read-t30 : tie.Need-shared-slice-read-t30
 shared-slice-read-t30 c = search needs
 
 returns : tie.Need-returns
-returns c = λ kept.
+returns c =
     let args = c .before .before .before .before .before .before .before .before .before .before .before .before .before .before .args in
     let below : args .k < getD (args .memo .now) 0 0 = omega (arith, c .before .before .before .before .before .before .before .before .before .before .before .held .ensures, c .before .before .before .before .before .before .before .before .before .before .if1 .taken) in
-    record {
-      row = lentOf (args .memo .now) (args .k);
-      told = fetched (args .k) kept below refl (ap stateOf (c .before .before .before .before .before .if3 .taken)) (c .before .before .before .before .before .before .before .if2 .taken);
-      kind = refl;
-      from = refl;
-      to = refl;
-      behind = refl;
-      next = refl;
-    }
+    let number = c .before .before .before .before .before .if3 .taken in
+    let place = c .before .before .before .before .before .before .before .if2 .taken in (
+      λ kept. looked (args .k) kept below number place,
+      λ kept. record {
+        row = lentOf (args .memo .now) (args .k);
+        told = fetched (args .k) kept below refl (ap stateOf number) place;
+        kind = refl;
+        from = refl;
+        to = refl;
+        behind = refl;
+        next = refl;
+      },
+    )
 
 anew-requires : tie.Need-anew-requires
 anew-requires c κs = search needs

@@ -38,19 +38,19 @@ begins-requires c κs = search needs
 
 returns : tie.Need-returns Inv-loop μ-loop
 returns c = λ kept.
-    let seen = c .before .before .look .ensures kept in
+    let seen = c .before .before .look .ensures .1 kept in
     let past = quiet-same _ _ (c .before .before .before .before .loop-test .taken) (c .before .before .before .to-mode .ensures _ kept) in
-    sym (entered _ _ _ _ (c .before .before .before .before .before .before .number-of .ensures) (c .before .before .before .before .before .loop .inv kept ∙ past .2 ∙ law.ahead-here _ _ _ _ (readOf (seen .row)) (past .0) (seen .told) (sym (c .before .begins .ensures (seen .row) (seen .kind) (seen .from) (seen .to)) ∙ c .if1 .taken)))
+    sym (entered _ _ _ _ (c .before .before .before .before .before .before .number-of .ensures .1) (c .before .before .before .before .before .loop .inv kept ∙ past .2 ∙ law.ahead-here _ _ _ _ (readOf (seen .row)) (past .0) (seen .told) (sym (c .before .begins .ensures (seen .row) (seen .kind) (seen .from) (seen .to)) ∙ c .if1 .taken)))
 
 returns-2 : tie.Need-returns-2 Inv-loop μ-loop
 returns-2 c = λ kept.
-    let seen = c .before .before .before .before .look .ensures kept in
+    let seen = c .before .before .before .before .look .ensures .1 kept in
     let past = quiet-same _ _ (c .before .before .before .before .before .before .loop-test .taken) (c .before .before .before .before .before .to-mode .ensures _ kept) in
-    sym (entered _ _ _ _ (c .before .before .before .before .before .before .before .before .number-of .ensures) (c .before .before .before .before .before .before .before .loop .inv kept ∙ past .2 ∙ law.ahead-stop _ _ _ _ (readOf (seen .row)) (past .0) (seen .told) (kind-stops (seen .row) (omega (arith, seen .kind, c .if2 .taken))) (sym (c .before .before .before .begins .ensures (seen .row) (seen .kind) (seen .from) (seen .to)) ∙ c .before .before .if1 .left)))
+    sym (entered _ _ _ _ (c .before .before .before .before .before .before .before .before .number-of .ensures .1) (c .before .before .before .before .before .before .before .loop .inv kept ∙ past .2 ∙ law.ahead-stop _ _ _ _ (readOf (seen .row)) (past .0) (seen .told) (kind-stops (seen .row) (omega (arith, seen .kind, c .if2 .taken))) (sym (c .before .before .before .begins .ensures (seen .row) (seen .kind) (seen .from) (seen .to)) ∙ c .before .before .if1 .left)))
 
 returns-3 : tie.Need-returns-3 Inv-loop μ-loop
 returns-3 c = λ kept.
-    let seen = c .before .before .before .before .before .look .ensures kept in
+    let seen = c .before .before .before .before .before .look .ensures .1 kept in
     let past = quiet-same _ (letters (c .before .before .before .before .before .before .before .before .before .before .before .before .args .s .now) (c .before .before .before .before .before .before .before .before .before .before .before .before .args .sought)) (c .before .before .before .before .before .before .before .loop-test .taken) (c .before .before .before .before .before .before .to-mode .ensures _ kept) in
     let ahead = turn-ahead _ _ _ (readOf (seen .row)) (past .0) (seen .told) (kind-goes (seen .row) (omega (arith, seen .kind, c .before .if2 .left))) in
     absurd (omega (arith, ahead, past .1, seen .next, c .if3 .taken))
@@ -63,12 +63,12 @@ loop-less c = omega (arith, c .before .if3 .left, c .before .before .before .bef
 
 loop-again : tie.Need-loop-again Inv-loop μ-loop
 loop-again c = λ kept.
-    let seen = c .before .before .before .before .before .before .look .ensures kept in
+    let seen = c .before .before .before .before .before .before .look .ensures .1 kept in
     let past = quiet-same _ _ (c .before .before .before .before .before .before .before .before .loop-test .taken) (c .before .before .before .before .before .before .before .to-mode .ensures _ kept) in
     rw (seen .behind, seen .next) (c .before .before .before .before .before .before .before .before .before .loop .inv kept ∙ past .2 ∙ law.ahead-on _ _ _ _ (readOf (seen .row)) (past .0) (seen .told) (kind-goes (seen .row) (omega (arith, seen .kind, c .before .before .if2 .left))) (sym (c .before .before .before .before .before .begins .ensures (seen .row) (seen .kind) (seen .from) (seen .to)) ∙ c .before .before .before .before .if1 .left))
 
 returns-4 : tie.Need-returns-4 Inv-loop μ-loop
-returns-4 c = λ kept. sym (entered _ _ _ _ (c .before .before .number-of .ensures) (c .before .loop .inv kept ∙ law.ahead-end _ _ _ _ (c .loop-test .left)))
+returns-4 c = λ kept. sym (entered _ _ _ _ (c .before .before .number-of .ensures .1) (c .before .loop .inv kept ∙ law.ahead-end _ _ _ _ (c .loop-test .left)))
 
 pub ahead-spec : {M : Type 1} → statement M
 ahead-spec =

@@ -37,7 +37,7 @@ slice-aggregate-judged c = search needs
 judged-requires : tie.Need-judged-requires
 judged-requires c κs =
     let syntax = c .before .before .before .before .before .syntax in
-    (record { short = omega (arith, c .before .before .before .before .before .before .before .if1 .left); is-module = syntax-free _ .0 (told _ _ (sym (c .before .before .enum-told .given .1) ∙ syntax .ensures .0)) }, syntax .ensures .1)
+    (record { short = omega (arith, c .before .before .before .before .before .before .before .if1 .left); is-module = syntax-free _ .0 (told _ _ (sym (c .before .before .enum-told .given .1) ∙ syntax .ensures .0)) }, syntax .ensures .1 .0)
 
 same-length : tie.Need-same-length
 same-length c = search needs

@@ -1,6 +1,7 @@
 use mathlib.Core.Path.{sym, _∙_}
 use Rattle.text.specs.Items.{actAt}
 use Rattle.wants.specs.Given.{want-of}
+use Rattle.productions.specs.Behind.{guard-told}
 use borrow.Author.Needs.{needs}
 use Rattle.items.proofs.acts.act.Statement.{statement}
 use Rattle.items.proofs.acts.act.Tie as tie
@@ -24,7 +25,7 @@ returns c =
     let stands = c .before .before .before .stands in
     let if1 = c .before .before .if1 in
     let given = c .before .given in
-    simp (← token .ensures, ← c .guard .ensures _ (given .ensures ∙ want-of _ _ _ (token .ensures) _), sym (stands .ensures) ∙ if1 .taken)
+    simp (← token .ensures, ← guard-told _ _ (c .guard .ensures) _ (given .ensures ∙ want-of _ _ _ (token .ensures) _), sym (stands .ensures) ∙ if1 .taken)
 
 given-requires-2 : tie.Need-given-requires-2
 given-requires-2 c κs = search needs

@@ -2,6 +2,7 @@ use mathlib.Core.Path.{_∙_}
 use borrow.Author.Tests.{eq-eqb, ne-eqb}
 use Rattle.text.specs.Items.{headAt, refusedAt}
 use Rattle.wants.specs.Given.{want-of}
+use Rattle.productions.specs.Behind.{activity-told}
 use borrow.Author.Needs.{needs}
 use Rattle.items.proofs.modes.head.Statement.{statement}
 use Rattle.items.proofs.modes.head.Tie as tie
@@ -28,7 +29,7 @@ returns-2 c =
     let pre = c .before .before .before .before .pre in
     let if1 = c .before .before .if1 in
     let given = c .before .given in
-    simp (← c .activity .ensures _ (given .ensures ∙ want-of _ _ _ pre _), ne-eqb _ _ (if1 .left))
+    simp (← activity-told _ _ (c .activity .ensures) _ (given .ensures ∙ want-of _ _ _ pre _), ne-eqb _ _ (if1 .left))
 
 pub head-spec : {M : Type 1} → statement M
 head-spec =

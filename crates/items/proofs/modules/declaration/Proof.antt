@@ -2,6 +2,7 @@ use mathlib.Core.Path.{_∙_}
 use borrow.Author.Tests.{eq-eqb, ne-eqb}
 use Rattle.text.specs.Items.{declarationAt, refusedAt}
 use Rattle.wants.specs.Given.{want-of}
+use Rattle.productions.specs.Behind.{constant-told, sensor-told, actuator-told}
 use borrow.Author.Needs.{needs}
 use Rattle.items.proofs.modules.declaration.Statement.{statement}
 use Rattle.items.proofs.modules.declaration.Tie as tie
@@ -18,7 +19,7 @@ returns c =
     let pre = c .before .before .before .before .pre in
     let given = c .before .before .given in
     let if1 = c .before .if1 in
-    simp (← c .constant .ensures _ (given .ensures ∙ want-of _ _ _ pre _), eq-eqb _ _ (if1 .taken))
+    simp (← constant-told _ (c .constant .ensures) _ (given .ensures ∙ want-of _ _ _ pre _), eq-eqb _ _ (if1 .taken))
 
 sensor-requires : tie.Need-sensor-requires
 sensor-requires c κs = search needs
@@ -30,7 +31,7 @@ returns-2 c =
     let given = c .before .before .before .given in
     let if1 = c .before .before .if1 in
     let if2 = c .before .if2 in
-    simp (← c .sensor .ensures _ (given .ensures ∙ want-of _ _ _ pre _), ne-eqb _ _ (if1 .left), eq-eqb _ _ (if2 .taken))
+    simp (← sensor-told _ (c .sensor .ensures) _ (given .ensures ∙ want-of _ _ _ pre _), ne-eqb _ _ (if1 .left), eq-eqb _ _ (if2 .taken))
 
 actuator-requires : tie.Need-actuator-requires
 actuator-requires c κs = search needs
@@ -43,7 +44,7 @@ returns-3 c =
     let if1 = c .before .before .before .if1 in
     let if2 = c .before .before .if2 in
     let if3 = c .before .if3 in
-    simp (← c .actuator .ensures _ (given .ensures ∙ want-of _ _ _ pre _), ne-eqb _ _ (if1 .left), ne-eqb _ _ (if2 .left), eq-eqb _ _ (if3 .taken))
+    simp (← actuator-told _ (c .actuator .ensures) _ (given .ensures ∙ want-of _ _ _ pre _), ne-eqb _ _ (if1 .left), ne-eqb _ _ (if2 .left), eq-eqb _ _ (if3 .taken))
 
 refused-requires : tie.Need-refused-requires
 refused-requires c κs = search needs

@@ -2,6 +2,7 @@ use mathlib.Core.Path.{_∙_}
 use borrow.Author.Tests.{eq-eqb, ne-eqb, lt-ltb, le-ltb}
 use Rattle.text.specs.Items.{sectionAt, refusedAt}
 use Rattle.wants.specs.Given.{want-of, any-of}
+use Rattle.productions.specs.Behind.{task-told, mode-told}
 use borrow.Author.Needs.{needs}
 use Rattle.items.proofs.modules.section.Statement.{statement}
 use Rattle.items.proofs.modules.section.Tie as tie
@@ -29,7 +30,7 @@ returns-2 c =
     let if1 = c .before .before .before .if1 in
     let if2 = c .before .before .if2 in
     let given = c .before .given in
-    simp (← c .begin .ensures _ (given .ensures ∙ want-of _ _ _ pre _), le-ltb _ _ (if1 .left), eq-eqb _ _ (if2 .taken))
+    simp (← task-told _ (c .begin .ensures) _ (given .ensures ∙ want-of _ _ _ pre _), le-ltb _ _ (if1 .left), eq-eqb _ _ (if2 .taken))
 
 begin-requires-2 : tie.Need-begin-requires-2
 begin-requires-2 c κs = search needs
@@ -41,7 +42,7 @@ returns-3 c =
     let if1 = c .before .before .before .if1 in
     let if2 = c .before .before .if2 in
     let if3 = c .before .if3 in
-    simp (← c .begin2 .ensures pre, le-ltb _ _ (if1 .left), ne-eqb _ _ (if2 .left), eq-eqb _ _ (if3 .taken))
+    simp (← c .begin2 .ensures ∙ mode-told _ _ _ pre, le-ltb _ _ (if1 .left), ne-eqb _ _ (if2 .left), eq-eqb _ _ (if3 .taken))
 
 given-requires-2 : tie.Need-given-requires-2
 given-requires-2 c κs = search needs

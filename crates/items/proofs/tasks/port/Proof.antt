@@ -2,6 +2,7 @@ use mathlib.Core.Path.{_∙_}
 use borrow.Author.Tests.{eq-eqb, ne-eqb}
 use Rattle.text.specs.Items.{taskPortAt, refusedAt}
 use Rattle.wants.specs.Given.{want-of}
+use Rattle.productions.specs.Behind.{input-told, output-told}
 use borrow.Author.Needs.{needs}
 use Rattle.items.proofs.tasks.port.Statement.{statement}
 use Rattle.items.proofs.tasks.port.Tie as tie
@@ -18,7 +19,7 @@ returns c =
     let pre = c .before .before .before .before .pre in
     let given = c .before .before .given in
     let if1 = c .before .if1 in
-    simp (← c .input .ensures _ (given .ensures ∙ want-of _ _ _ pre _), eq-eqb _ _ (if1 .taken))
+    simp (← input-told _ (c .input .ensures) _ (given .ensures ∙ want-of _ _ _ pre _), eq-eqb _ _ (if1 .taken))
 
 output-requires : tie.Need-output-requires
 output-requires c κs = search needs
@@ -30,7 +31,7 @@ returns-2 c =
     let given = c .before .before .before .given in
     let if1 = c .before .before .if1 in
     let if2 = c .before .if2 in
-    simp (← c .output .ensures _ (given .ensures ∙ want-of _ _ _ pre _), ne-eqb _ _ (if1 .left), eq-eqb _ _ (if2 .taken))
+    simp (← output-told _ (c .output .ensures) _ (given .ensures ∙ want-of _ _ _ pre _), ne-eqb _ _ (if1 .left), eq-eqb _ _ (if2 .taken))
 
 refused-requires : tie.Need-refused-requires
 refused-requires c κs = search needs

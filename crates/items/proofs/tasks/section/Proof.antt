@@ -2,6 +2,7 @@ use mathlib.Core.Path.{_∙_}
 use borrow.Author.Tests.{eq-eqb, ne-eqb, lt-ltb, le-ltb}
 use Rattle.text.specs.Items.{portionAt, refusedAt}
 use Rattle.wants.specs.Given.{want-of, any-of}
+use Rattle.productions.specs.Behind.{task-end-told}
 use borrow.Author.Needs.{needs}
 use Rattle.items.proofs.tasks.section.Statement.{statement}
 use Rattle.items.proofs.tasks.section.Tie as tie
@@ -29,7 +30,7 @@ returns-2 c =
     let if1 = c .before .before .before .if1 in
     let if2 = c .before .before .if2 in
     let given = c .before .given in
-    simp (← c .end .ensures _ (given .ensures ∙ want-of _ _ _ pre _), le-ltb _ _ (if1 .left), eq-eqb _ _ (if2 .taken))
+    simp (← task-end-told _ (c .end .ensures) _ (given .ensures ∙ want-of _ _ _ pre _), le-ltb _ _ (if1 .left), eq-eqb _ _ (if2 .taken))
 
 given-any-requires : tie.Need-given-any-requires
 given-any-requires c κs = search needs

@@ -2,7 +2,7 @@ use Prim.Native.Nat.{_-_}
 use mathlib.Core.Path.{_≡_}
 use lib.ListN.{length}
 use Rattle.kept.specs.Rows.{stateOf}
-use Rattle.kept.specs.KeptLaws.{none-kept, behind-keeps}
+use Rattle.kept.specs.KeptLaws.{keeps-none, behind-keeps, keeps-kept}
 use native.Mathlib.Omega.{arith}
 use borrow.Author.Needs.{needs}
 use Rattle.kept.proofs.pass.syntax.Statement.{statement}
@@ -25,7 +25,9 @@ same-length c = search needs
 
 returns : tie.Need-returns
 unfolding stateOf
-returns c = (c .before .walk .ensures .told (omega arith) (omega arith), none-kept _ _ (c .before .before .before .before .before .clear .ensures))
+returns c =
+    let none = c .before .before .before .before .before .clear .ensures in
+    (c .before .walk .ensures .told (omega arith) (omega arith), (keeps-kept (keeps-none _ _ (omega arith) none), keeps-none _ _ (omega arith) none))
 
 sub-walk : tie.Need-sub-walk
 sub-walk c = search needs
@@ -51,7 +53,8 @@ returns-2 c =
     let memo = c .before .before .before .before .before .before .before .args .memo .now in
     let rows = c .before .before .walk2 .last .1 .0 in
     let long : length rows ≡ length memo - 16 = omega (arith, c .before .memo2 .given) in
-    (c .before .before .walk2 .ensures .told (omega arith) (omega arith), behind-keeps memo rows _ long (omega (arith, c .before .before .before .before .if1 .left)) (c .before .before .walk2 .ensures .filled))
+    let keeps = behind-keeps memo rows _ long (omega (arith, c .before .before .before .before .if1 .left)) (c .before .before .walk2 .ensures .listed (omega arith) (omega arith)) in
+    (c .before .before .walk2 .ensures .told (omega arith) (omega arith), (keeps-kept keeps, keeps))
 
 pub syntax-spec : {M : Type 1} → statement M
 syntax-spec =

@@ -2,7 +2,7 @@ use Prim.Native.Nat.{_+_, _*_, _≤_}
 use mathlib.Core.Path.{_≡_, _∙_}
 use lib.ListN.{length}
 use Rattle.kept.specs.KeptLaws.{lent-length}
-use Rattle.kept.specs.Passes.{Walking, walk-begins, walk-goes-on, walk-stops, walk-ends}
+use Rattle.kept.specs.Passes.{turn-less, Walking, walk-begins, walk-goes-on, walk-stops, walk-ends}
 use borrow.Author.Needs.{needs}
 use native.Mathlib.Omega.{arith}
 use Rattle.kept.proofs.pass.walk.Statement.{statement}
@@ -87,7 +87,7 @@ sub-left : tie.Need-sub-left Inv-loop μ-loop
 sub-left c = search needs
 
 loop-less : tie.Need-loop-less Inv-loop μ-loop
-loop-less c = search needs
+loop-less c = turn-less (c .before .before .before .before .before .before .before .loop-test .taken)
 
 loop-again : tie.Need-loop-again Inv-loop μ-loop
 loop-again c =
@@ -97,7 +97,7 @@ loop-again c =
     let laid = c .before .before .before .before .before .read .ensures in
     let long : length row ≡ 16 = omega (arith, c .before .before .before .before .rows .given) in
     let same = lent-length (loop .rows) row (loop .many) long (loop .inv .2) in
-    (walk-goes-on (args .s .now) (args .state) (args .place) (args .turns) (loop .rows) row (loop .many) (loop .number) (loop .at) (loop .left) long (loop .inv .0) (c .before .before .before .before .before .before .before .loop-test .taken) laid (omega (arith, c .before .if1 .left)) (omega (arith, c .following .ensures)) (omega (arith, same, loop .inv .2, c .following .ensures)), same ∙ loop .inv .1, omega (arith, same, loop .inv .2, c .following .ensures))
+    (walk-goes-on (args .s .now) (args .state) (args .place) (args .turns) (loop .rows) row (loop .many) (loop .number) (loop .at) (loop .left) long (loop .inv .0) (c .before .before .before .before .before .before .before .loop-test .taken) laid (omega (arith, c .before .if1 .left)) (c .following .ensures ∙ rw same), same ∙ loop .inv .1, omega (arith, same, loop .inv .2, c .following .ensures))
 
 same-length-2 : tie.Need-same-length-2 Inv-loop μ-loop
 same-length-2 c = search needs

@@ -18,11 +18,17 @@ slice-write-row-2 c = simp length-set (omega arith)
 slice-write-row-3 : tie.Need-slice-write-row-3
 slice-write-row-3 c = simp length-set (omega arith)
 
+slice-write-row-4 : tie.Need-slice-write-row-4
+slice-write-row-4 c = simp length-set (omega arith)
+
+slice-write-row-5 : tie.Need-slice-write-row-5
+slice-write-row-5 c = simp length-set (omega arith)
+
 same-length : tie.Need-same-length
 same-length c = simp length-set
 
 returns : tie.Need-returns
-returns c = rw (whole (c .before .before .args .row .now) (c .before .before .pre)) (refl, byte-of (c .wide .ensures), refl)
+returns c = rw (whole (c .before .before .args .row .now) (c .before .before .pre)) (refl, refl, byte-of (c .wide .ensures), refl)
 
 pub refused-spec : {M : Type 1} → statement M
 refused-spec =
@@ -32,5 +38,7 @@ refused-spec =
     slice-write-row
     slice-write-row-2
     slice-write-row-3
+    slice-write-row-4
+    slice-write-row-5
     same-length
     returns)

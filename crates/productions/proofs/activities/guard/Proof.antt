@@ -1,6 +1,6 @@
 use mathlib.Core.Path.{sym, _∙_}
 use Rattle.wants.specs.Given.{want-of}
-use Rattle.text.specs.Productions.{guardAt}
+use Rattle.productions.specs.Behind.{guardBehind}
 use borrow.Author.Needs.{needs}
 use Rattle.productions.proofs.activities.guard.Statement.{statement}
 use Rattle.productions.proofs.activities.guard.Tie as tie
@@ -30,7 +30,7 @@ close-requires : tie.Need-close-requires
 close-requires c κs = search needs
 
 returns : tie.Need-returns
-unfolding guardAt
+unfolding guardBehind
 returns c =
     let next = c .before .before .before .before .before .before .before .before .next in
     let next2 = c .before .before .before .before .before .before .before .next2 in
@@ -40,7 +40,7 @@ returns c =
     let given = c .before .before .before .given in
     let next3 = c .before .before .next3 in
     let name-of = c .before .name-of in
-    λ g p. simp (← p, ← next .ensures, ← next2 .ensures, ← token .ensures, ← given .ensures ∙ want-of _ _ _ (token .ensures) _, ← next3 .ensures, ← name-of .ensures, ← c .close .ensures, sym (stands .ensures) ∙ if1 .taken)
+    simp (← next .ensures, ← next2 .ensures, ← token .ensures, ← given .ensures ∙ want-of _ _ _ (token .ensures) _, ← next3 .ensures, ← name-of .ensures, ← c .close .ensures, sym (stands .ensures) ∙ if1 .taken)
 
 count-requires : tie.Need-count-requires
 count-requires c κs = c .before .before .token .ensures
@@ -52,7 +52,7 @@ close-requires-2 : tie.Need-close-requires-2
 close-requires-2 c κs = search needs
 
 returns-2 : tie.Need-returns-2
-unfolding guardAt
+unfolding guardBehind
 returns-2 c =
     let next = c .before .before .before .before .before .before .before .next in
     let next2 = c .before .before .before .before .before .before .next2 in
@@ -61,7 +61,7 @@ returns-2 c =
     let if1 = c .before .before .before .if1 in
     let count = c .before .before .count in
     let name-of2 = c .before .name-of2 in
-    λ g p. simp (← p, ← next .ensures, ← next2 .ensures, ← token .ensures, ← count .ensures, ← name-of2 .ensures, ← c .close2 .ensures, sym (stands .ensures) ∙ if1 .left)
+    simp (← next .ensures, ← next2 .ensures, ← token .ensures, ← count .ensures, ← name-of2 .ensures, ← c .close2 .ensures, sym (stands .ensures) ∙ if1 .left)
 
 pub guard-spec : {M : Type 1} → statement M
 guard-spec =

@@ -1,6 +1,6 @@
 use mathlib.Core.Path.{sym, _∙_}
 use Rattle.wants.specs.Given.{want-of}
-use Rattle.text.specs.Productions.{invokeAt}
+use Rattle.productions.specs.Behind.{invokeBehind}
 use borrow.Author.Needs.{needs}
 use Rattle.productions.proofs.activities.invoke.Statement.{statement}
 use Rattle.productions.proofs.activities.invoke.Tie as tie
@@ -27,7 +27,7 @@ close-requires : tie.Need-close-requires
 close-requires c κs = search needs
 
 returns : tie.Need-returns
-unfolding invokeAt
+unfolding invokeBehind
 returns c =
     let next = c .before .before .before .before .before .before .before .next in
     let token = c .before .before .before .before .before .before .token in
@@ -36,7 +36,7 @@ returns c =
     let given = c .before .before .before .given in
     let next2 = c .before .before .next2 in
     let name-of = c .before .name-of in
-    λ g p. simp (← p, ← next .ensures, ← token .ensures, ← given .ensures ∙ want-of _ _ _ (token .ensures) _, ← next2 .ensures, ← name-of .ensures, ← c .close .ensures, sym (stands .ensures) ∙ if1 .taken)
+    simp (← next .ensures, ← token .ensures, ← given .ensures ∙ want-of _ _ _ (token .ensures) _, ← next2 .ensures, ← name-of .ensures, ← c .close .ensures, sym (stands .ensures) ∙ if1 .taken)
 
 count-requires : tie.Need-count-requires
 count-requires c κs = c .before .before .token .ensures
@@ -48,7 +48,7 @@ close-requires-2 : tie.Need-close-requires-2
 close-requires-2 c κs = search needs
 
 returns-2 : tie.Need-returns-2
-unfolding invokeAt
+unfolding invokeBehind
 returns-2 c =
     let next = c .before .before .before .before .before .before .next in
     let token = c .before .before .before .before .before .token in
@@ -56,7 +56,7 @@ returns-2 c =
     let if1 = c .before .before .before .if1 in
     let count = c .before .before .count in
     let name-of2 = c .before .name-of2 in
-    λ g p. simp (← p, ← next .ensures, ← token .ensures, ← count .ensures, ← name-of2 .ensures, ← c .close2 .ensures, sym (stands .ensures) ∙ if1 .left)
+    simp (← next .ensures, ← token .ensures, ← count .ensures, ← name-of2 .ensures, ← c .close2 .ensures, sym (stands .ensures) ∙ if1 .left)
 
 pub invoke-spec : {M : Type 1} → statement M
 invoke-spec =

@@ -1,4 +1,4 @@
-use Rattle.text.specs.Productions.{switchAt}
+use Rattle.productions.specs.Behind.{switchBehind}
 use borrow.Author.Needs.{needs}
 use Rattle.productions.proofs.activities.switch.Statement.{statement}
 use Rattle.productions.proofs.activities.switch.Tie as tie
@@ -13,11 +13,11 @@ close-requires : tie.Need-close-requires
 close-requires c κs = search needs
 
 returns : tie.Need-returns
-unfolding switchAt
+unfolding switchBehind
 returns c =
     let next = c .before .before .next in
     let name-of = c .before .name-of in
-    λ g p. simp (← p, ← next .ensures, ← name-of .ensures, ← c .close .ensures)
+    simp (← next .ensures, ← name-of .ensures, ← c .close .ensures)
 
 pub switch-spec : {M : Type 1} → statement M
 switch-spec = tie.close (tie.spec next-requires name-of-requires close-requires returns)

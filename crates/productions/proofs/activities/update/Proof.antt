@@ -1,6 +1,6 @@
 use mathlib.Core.Path.{_∙_}
 use Rattle.productions.specs.Ahead.{ahead-port, ahead-want}
-use Rattle.text.specs.Productions.{updateAt}
+use Rattle.productions.specs.Behind.{updateBehind}
 use borrow.Author.Needs.{needs}
 use Rattle.productions.proofs.activities.update.Statement.{statement}
 use Rattle.productions.proofs.activities.update.Tie as tie
@@ -21,13 +21,13 @@ close-requires : tie.Need-close-requires
 close-requires c κs = search needs
 
 returns : tie.Need-returns
-unfolding updateAt
+unfolding updateBehind
 returns c =
     let next = c .before .before .before .before .before .before .before .next in
     let read = c .before .before .before .before .before .before .read in
     let given = c .before .before .given in
     let name-of = c .before .name-of in
-    λ g p. simp (← p, ← next .ensures, ← ahead-port _ _ _ (read .ensures), ← given .ensures ∙ ahead-want _ _ _ (read .ensures) _, ← name-of .ensures, ← c .close .ensures)
+    simp (← next .ensures, ← ahead-port _ _ _ (read .ensures), ← given .ensures ∙ ahead-want _ _ _ (read .ensures) _, ← name-of .ensures, ← c .close .ensures)
 
 pub update-spec : {M : Type 1} → statement M
 update-spec =

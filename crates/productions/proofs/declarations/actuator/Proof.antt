@@ -1,4 +1,4 @@
-use Rattle.text.specs.Productions.{actuatorAt}
+use Rattle.productions.specs.Behind.{actuatorBehind}
 use borrow.Author.Needs.{needs}
 use Rattle.productions.proofs.declarations.actuator.Statement.{statement}
 use Rattle.productions.proofs.declarations.actuator.Tie as tie
@@ -37,7 +37,7 @@ close-requires : tie.Need-close-requires
 close-requires c κs = search needs
 
 returns : tie.Need-returns
-unfolding actuatorAt
+unfolding actuatorBehind
 returns c =
     let next = c .before .before .before .before .before .before .before .before .before .before .next in
     let next2 = c .before .before .before .before .before .before .before .before .before .next2 in
@@ -49,7 +49,7 @@ returns c =
     let name-of = c .before .before .before .name-of in
     let name-of2 = c .before .before .name-of2 in
     let name-of3 = c .before .name-of3 in
-    λ g p. simp (← p, ← next .ensures, ← next2 .ensures, ← read .ensures, ← past .ensures, ← next3 .ensures, ← next4 .ensures, ← next5 .ensures, ← name-of .ensures, ← name-of2 .ensures, ← name-of3 .ensures, ← c .close .ensures)
+    simp (← next .ensures, ← next2 .ensures, ← read .ensures, ← past .ensures, ← next3 .ensures, ← next4 .ensures, ← next5 .ensures, ← name-of .ensures, ← name-of2 .ensures, ← name-of3 .ensures, ← c .close .ensures)
 
 pub actuator-spec : {M : Type 1} → statement M
 actuator-spec =

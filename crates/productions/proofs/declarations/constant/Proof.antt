@@ -1,4 +1,4 @@
-use Rattle.text.specs.Productions.{constantAt}
+use Rattle.productions.specs.Behind.{constantBehind}
 use borrow.Author.Needs.{needs}
 use Rattle.productions.proofs.declarations.constant.Statement.{statement}
 use Rattle.productions.proofs.declarations.constant.Tie as tie
@@ -22,14 +22,14 @@ close-requires : tie.Need-close-requires
 close-requires c κs = search needs
 
 returns : tie.Need-returns
-unfolding constantAt
+unfolding constantBehind
 returns c =
     let next = c .before .before .before .before .before .next in
     let read = c .before .before .before .before .read in
     let past = c .before .before .before .past in
     let next2 = c .before .before .next2 in
     let name-of = c .before .name-of in
-    λ g p. simp (← p, ← next .ensures, ← read .ensures, ← past .ensures, ← next2 .ensures, ← name-of .ensures, ← c .close .ensures)
+    simp (← next .ensures, ← read .ensures, ← past .ensures, ← next2 .ensures, ← name-of .ensures, ← c .close .ensures)
 
 pub constant-spec : {M : Type 1} → statement M
 constant-spec =

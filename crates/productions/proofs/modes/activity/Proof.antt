@@ -1,4 +1,4 @@
-use Rattle.text.specs.Productions.{activityAt}
+use Rattle.productions.specs.Behind.{activityBehind}
 use borrow.Author.Needs.{needs}
 use Rattle.productions.proofs.modes.activity.Statement.{statement}
 use Rattle.productions.proofs.modes.activity.Tie as tie
@@ -25,14 +25,14 @@ close-requires : tie.Need-close-requires
 close-requires c κs = search needs
 
 returns : tie.Need-returns
-unfolding activityAt
+unfolding activityBehind
 returns c =
     let word = c .before .before .before .before .before .word in
     let next = c .before .before .before .before .next in
     let next2 = c .before .before .before .next2 in
     let next3 = c .before .before .next3 in
     let name-of = c .before .name-of in
-    λ g p. simp (← p, ← word .ensures, ← next .ensures, ← next2 .ensures, ← next3 .ensures, ← name-of .ensures, ← c .close .ensures)
+    simp (← word .ensures, ← next .ensures, ← next2 .ensures, ← next3 .ensures, ← name-of .ensures, ← c .close .ensures)
 
 pub activity-spec : {M : Type 1} → statement M
 activity-spec =

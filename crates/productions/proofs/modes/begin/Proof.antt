@@ -1,6 +1,5 @@
 use mathlib.Core.Path.{sym, _∙_}
-use Rattle.wants.specs.Given.{want-of, any-of}
-use Rattle.text.specs.Productions.{modeAt}
+use Rattle.productions.specs.Behind.{modeBehind}
 use borrow.Author.Needs.{needs}
 use Rattle.productions.proofs.modes.begin.Statement.{statement}
 use Rattle.productions.proofs.modes.begin.Tie as tie
@@ -18,13 +17,13 @@ behind-requires : tie.Need-behind-requires
 behind-requires c κs = search needs
 
 returns : tie.Need-returns
-unfolding modeAt
+unfolding modeBehind
 returns c =
     let stands = c .before .before .before .before .stands in
     let if1 = c .before .before .before .if1 in
     let given-any = c .before .before .given-any in
     let next = c .before .next in
-    λ p. simp (← p, ← given-any .ensures ∙ any-of _ _ _ p, ← next .ensures, ← c .behind .ensures, sym (stands .ensures) ∙ if1 .taken)
+    simp (← given-any .ensures, ← next .ensures, ← c .behind .ensures, sym (stands .ensures) ∙ if1 .taken)
 
 given-requires : tie.Need-given-requires
 given-requires c κs = search needs
@@ -33,12 +32,12 @@ behind-requires-2 : tie.Need-behind-requires-2
 behind-requires-2 c κs = search needs
 
 returns-2 : tie.Need-returns-2
-unfolding modeAt
+unfolding modeBehind
 returns-2 c =
     let stands = c .before .before .before .stands in
     let if1 = c .before .before .if1 in
     let given = c .before .given in
-    λ p. simp (← p, ← given .ensures ∙ want-of _ _ _ p _, ← c .behind2 .ensures, sym (stands .ensures) ∙ if1 .left)
+    simp (← given .ensures, ← c .behind2 .ensures, sym (stands .ensures) ∙ if1 .left)
 
 pub begin-spec : {M : Type 1} → statement M
 begin-spec =

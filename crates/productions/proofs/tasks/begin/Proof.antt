@@ -1,4 +1,4 @@
-use Rattle.text.specs.Productions.{taskAt}
+use Rattle.productions.specs.Behind.{taskBehind}
 use borrow.Author.Needs.{needs}
 use Rattle.productions.proofs.tasks.begin.Statement.{statement}
 use Rattle.productions.proofs.tasks.begin.Tie as tie
@@ -16,12 +16,12 @@ close-requires : tie.Need-close-requires
 close-requires c κs = search needs
 
 returns : tie.Need-returns
-unfolding taskAt
+unfolding taskBehind
 returns c =
     let next = c .before .before .before .next in
     let next2 = c .before .before .next2 in
     let name-of = c .before .name-of in
-    λ g p. simp (← p, ← next .ensures, ← next2 .ensures, ← name-of .ensures, ← c .close .ensures)
+    simp (← next .ensures, ← next2 .ensures, ← name-of .ensures, ← c .close .ensures)
 
 pub begin-spec : {M : Type 1} → statement M
 begin-spec =

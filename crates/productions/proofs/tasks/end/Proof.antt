@@ -1,4 +1,4 @@
-use Rattle.text.specs.Productions.{taskEndAt}
+use Rattle.productions.specs.Behind.{taskEndBehind}
 use borrow.Author.Needs.{needs}
 use Rattle.productions.proofs.tasks.end.Statement.{statement}
 use Rattle.productions.proofs.tasks.end.Tie as tie
@@ -19,13 +19,13 @@ close-requires : tie.Need-close-requires
 close-requires c κs = search needs
 
 returns : tie.Need-returns
-unfolding taskEndAt
+unfolding taskEndBehind
 returns c =
     let next = c .before .before .before .before .next in
     let next2 = c .before .before .before .next2 in
     let next3 = c .before .before .next3 in
     let name-of = c .before .name-of in
-    λ g p. simp (← p, ← next .ensures, ← next2 .ensures, ← next3 .ensures, ← name-of .ensures, ← c .close .ensures)
+    simp (← next .ensures, ← next2 .ensures, ← next3 .ensures, ← name-of .ensures, ← c .close .ensures)
 
 pub end-spec : {M : Type 1} → statement M
 end-spec =

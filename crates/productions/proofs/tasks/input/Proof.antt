@@ -1,4 +1,4 @@
-use Rattle.text.specs.Productions.{inputAt}
+use Rattle.productions.specs.Behind.{inputBehind}
 use borrow.Author.Needs.{needs}
 use Rattle.productions.proofs.tasks.input.Statement.{statement}
 use Rattle.productions.proofs.tasks.input.Tie as tie
@@ -19,13 +19,13 @@ close-requires : tie.Need-close-requires
 close-requires c κs = search needs
 
 returns : tie.Need-returns
-unfolding inputAt
+unfolding inputBehind
 returns c =
     let next = c .before .before .before .before .next in
     let next2 = c .before .before .before .next2 in
     let name-of = c .before .before .name-of in
     let name-of2 = c .before .name-of2 in
-    λ g p. simp (← p, ← next .ensures, ← next2 .ensures, ← name-of .ensures, ← name-of2 .ensures, ← c .close .ensures)
+    simp (← next .ensures, ← next2 .ensures, ← name-of .ensures, ← name-of2 .ensures, ← c .close .ensures)
 
 pub input-spec : {M : Type 1} → statement M
 input-spec =

@@ -1,4 +1,4 @@
-use Rattle.text.specs.Productions.{outputAt}
+use Rattle.productions.specs.Behind.{outputBehind}
 use borrow.Author.Needs.{needs}
 use Rattle.productions.proofs.tasks.output.Statement.{statement}
 use Rattle.productions.proofs.tasks.output.Tie as tie
@@ -28,7 +28,7 @@ close-requires : tie.Need-close-requires
 close-requires c κs = search needs
 
 returns : tie.Need-returns
-unfolding outputAt
+unfolding outputBehind
 returns c =
     let next = c .before .before .before .before .before .before .before .next in
     let next2 = c .before .before .before .before .before .before .next2 in
@@ -37,7 +37,7 @@ returns c =
     let next3 = c .before .before .before .next3 in
     let name-of = c .before .before .name-of in
     let name-of2 = c .before .name-of2 in
-    λ g p. simp (← p, ← next .ensures, ← next2 .ensures, ← read .ensures, ← past .ensures, ← next3 .ensures, ← name-of .ensures, ← name-of2 .ensures, ← c .close .ensures)
+    simp (← next .ensures, ← next2 .ensures, ← read .ensures, ← past .ensures, ← next3 .ensures, ← name-of .ensures, ← name-of2 .ensures, ← c .close .ensures)
 
 pub output-spec : {M : Type 1} → statement M
 output-spec =

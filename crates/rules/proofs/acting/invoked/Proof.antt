@@ -19,8 +19,8 @@ put-requires-2 c κs = search needs
 more-requires : tie.Need-more-requires
 more-requires c κs = search needs
 
-twice-from-requires : tie.Need-twice-from-requires
-twice-from-requires c κs = search needs
+twice-of-requires : tie.Need-twice-of-requires
+twice-of-requires c κs = search needs
 
 element-copy-out-call-rules : tie.Need-element-copy-out-call-rules
 element-copy-out-call-rules c = search needs
@@ -42,7 +42,7 @@ same-length-2 c = omega (arith, c .before .before .before .before .before .befor
 
 returns : tie.Need-returns
 returns c = (
-  λ ix. c .turned .ensures ∙ rw (c .before .before .call-rules .ensures _ ix, c .before .invoked .ensures, c .before .before .before .before .before .twice-from .ensures, c .before .before .before .before .before .before .before .more .ensures, c .before .before .before .before .before .before .before .before .before .before .before .before .before .before .before .before .task-named .ensures ix, c .before .before .before .before .before .before .before .before .before .before .before .before .before .before .before .before .before .first-name .ensures),
+  λ ix. c .turned .ensures ∙ rw (c .before .before .call-rules .ensures _ ix, c .before .invoked .ensures, c .before .before .before .before .before .twice-of .ensures, c .before .before .before .before .before .before .before .more .ensures, c .before .before .before .before .before .before .before .before .before .before .before .before .before .before .before .before .task-named .ensures ix, c .before .before .before .before .before .before .before .before .before .before .before .before .before .before .before .before .before .first-name .ensures),
   λ ix. (c .before .before .before .before .before .before .before .before .before .before .before .before .before .before .put .ensures, c .before .before .before .before .before .before .before .before .before .before .put2 .ensures ∙ rw (c .before .before .before .before .before .before .before .before .before .before .before .before .before .before .before .before .task-named .ensures ix, c .before .before .before .before .before .before .before .before .before .before .before .before .before .before .before .before .before .first-name .ensures)),
 )
 
@@ -55,7 +55,7 @@ invoked-spec =
     put-requires
     put-requires-2
     more-requires
-    twice-from-requires
+    twice-of-requires
     element-copy-out-call-rules
     call-rules-requires
     invoked-requires

@@ -18,8 +18,8 @@ put-requires c κs = search needs
 more-requires : tie.Need-more-requires
 more-requires c κs = search needs
 
-twice-from-requires : tie.Need-twice-from-requires
-twice-from-requires c κs = search needs
+twice-of-requires : tie.Need-twice-of-requires
+twice-of-requires c κs = search needs
 
 update-rules-requires : tie.Need-update-rules-requires
 update-rules-requires c κs = search needs
@@ -35,7 +35,7 @@ same-length c = search needs
 
 returns : tie.Need-returns
 returns c = (
-  λ ix. c .turned .ensures ∙ rw (c .before .before .update-rules .ensures ix, c .before .updated .ensures, c .before .before .before .before .twice-from .ensures, c .before .before .before .before .before .before .more .ensures, c .before .before .before .before .before .before .before .before .before .before .before .named .ensures ix, c .before .before .before .before .before .before .before .before .before .before .before .before .before .first-name .ensures, c .before .before .before .before .before .before .before .before .before .before .before .before .second-port .ensures),
+  λ ix. c .turned .ensures ∙ rw (c .before .before .update-rules .ensures ix, c .before .updated .ensures, c .before .before .before .before .twice-of .ensures, c .before .before .before .before .before .before .more .ensures, c .before .before .before .before .before .before .before .before .before .before .before .named .ensures ix, c .before .before .before .before .before .before .before .before .before .before .before .before .before .first-name .ensures, c .before .before .before .before .before .before .before .before .before .before .before .before .second-port .ensures),
   λ ix. c .before .before .before .before .before .before .before .before .before .put .ensures ∙ rw (c .before .before .before .before .before .before .before .before .before .before .before .named .ensures ix, c .before .before .before .before .before .before .before .before .before .before .before .before .before .first-name .ensures),
 )
 
@@ -48,7 +48,7 @@ updated-spec =
     named-requires
     put-requires
     more-requires
-    twice-from-requires
+    twice-of-requires
     update-rules-requires
     updated-requires
     turned-requires

@@ -4,24 +4,24 @@ use denote.Ref.{now}
 use lib.ListN.{length, take, drop, length-take}
 use lib.Seq.{getD-take}
 use Rattle.refusals.specs.Refusals.{among}
-use Rattle.refusals.specs.Twice.{twiceFrom}
+use Rattle.refusals.specs.Twice.{twiceFrom, twiceOf}
 use Rattle.refusals.specs.Twice as law
 use borrow.Author.Needs.{needs}
 use native.Mathlib.Omega.{arith}
-use Rattle.activities.proofs.acts.twice_from.Statement.{statement}
-use Rattle.activities.proofs.acts.twice_from.Tie as tie
+use Rattle.activities.proofs.acts.twice_of.Statement.{statement}
+use Rattle.activities.proofs.acts.twice_of.Tie as tie
 
 abbrev Inv-loop : tie.InvT-loop
-Inv-loop numbers n from count j second i₀ i = (i ≤ j) × (among second (take j (take n numbers)) ≡ among second (drop i (take j (take n numbers))))
+Inv-loop numbers n count j second i₀ i = (i ≤ j) × (among second (take j (take n numbers)) ≡ among second (drop i (take j (take n numbers))))
 
 abbrev μ-loop : tie.MeasureT-loop
-μ-loop numbers n from count j second i₀ i = j - i
+μ-loop numbers n count j second i₀ i = j - i
 
 abbrev Inv-pairs : tie.InvT-pairs
-Inv-pairs numbers n from count j₀ j = twiceFrom (take n numbers) from ≡ twiceFrom (take n numbers) j
+Inv-pairs numbers n count j₀ j = twiceOf (take n numbers) ≡ twiceFrom (take n numbers) j
 
 abbrev μ-pairs : tie.MeasureT-pairs
-μ-pairs numbers n from count j₀ j = count - j
+μ-pairs numbers n count j₀ j = count - j
 
 least-requires : tie.Need-least-requires Inv-loop μ-loop Inv-pairs μ-pairs
 least-requires c κs = search needs
@@ -81,8 +81,8 @@ returns-2 c = let args = (c .before .before .before .before .before .before .bef
     let found = (c .before .before .before .loop .inv .1) ∙ law.among-out _ whole (c .before .before .before .before .before .before .pairs .j) (c .before .before .before .loop .i) (omega arith) (c .before .before .loop-test .taken) (getD-take (args .n) (now (args .numbers)) (c .before .before .before .loop .i) 0 (omega arith) ∙ (c .if2 .taken)) in
     sym ((c .before .before .before .before .before .before .pairs .inv) ∙ law.twice-out whole (c .before .before .before .before .before .before .pairs .j) (omega arith) (rw (getD-take (args .n) (now (args .numbers)) (c .before .before .before .before .before .before .pairs .j) 0 (omega arith)) found))
 
-pub twice-from-spec : {M : Type 1} → statement M
-twice-from-spec =
+pub twice-of-spec : {M : Type 1} → statement M
+twice-of-spec =
     tie.close
     (tie.spec
     Inv-loop
