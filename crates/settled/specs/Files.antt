@@ -16,16 +16,20 @@ use Rattle.native.proofs.native_read.Kinds as native-read
 use Rattle.native.proofs.native_read.Reads as native-read-reads
 
 pub compile-settled : Settled compile.ps compile.r compile-reads.Post
-compile-settled κs arguments one other held kept p q = (p .0 ∙ sym (q .0), λ i. (tt, ((p .1 ∙ sym (q .1)) i, tt)))
+compile-settled κs arguments one other held kept p q =
+    let buffer : held .1 .0 ≡ kept .1 .0 = cc in
+    (cc, λ i. (tt, (buffer i, tt)))
 
 pub read-settled : Settled read.ps read.r read-reads.Post
-read-settled κs arguments one other held kept p q = (p ∙ sym q, refl)
+read-settled κs arguments one other held kept p q = (cc, refl)
 
 pub sound-settled : Settled sound.ps sound.r sound-reads.Post
-sound-settled κs arguments one other held kept p q = (p .0 ∙ sym (q .0), refl)
+sound-settled κs arguments one other held kept p q = (cc, refl)
 
 pub write-settled : Settled write.ps write.r write-reads.Post
-write-settled κs arguments one other held kept p q = (p .0 ∙ sym (q .0), λ i. (tt, ((p .1 ∙ sym (q .1)) i, tt)))
+write-settled κs arguments one other held kept p q =
+    let buffer : held .1 .0 ≡ kept .1 .0 = cc in
+    (cc, λ i. (tt, (buffer i, tt)))
 
 pub native-compile-settled : Settled native-compile.ps native-compile.r native-compile-reads.Post
 native-compile-settled κs arguments one other held kept p q = (p .0 ∙ sym (q .0), λ i. (tt, ((p .1 ∙ sym (q .1)) i, tt)))
