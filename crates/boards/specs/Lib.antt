@@ -5,4 +5,3 @@ pub mod Lots
 pub mod Modes
 pub mod Agreement
 pub mod Starts
-pub mod NoSecond

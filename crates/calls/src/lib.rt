@@ -1,15 +1,16 @@
 // The machine's calls, over arrays lent from a table and a machine. Where the machine stands is in three of them: numbers (the last accepted count,
 // what remains, the mode, where the next reaction begins, the late task), marks (not 0: stopped; the fault) and sets (the tasks out, waiting, finished).
-// Promises: each call is its definition, for every table and every state: the answer, where the machine then stands, the ports and the results aside.
+// Promises: each call is its definition, for every table and every state: the answer, where the machine then stands, and every cell of the lent arrays.
 // Builds on the calls of machine, on react, bits and cells.
 ghost use mathlib.Core.Path.{_≡_};
-ghost use mathlib.Core.List.{List, []};
+ghost use mathlib.Core.List.{List, [], _∷_};
 ghost use Prim.Native.Nat.{ℕ};
 ghost use Rattle.model.specs.Clock.{fits as fitsOf};
 ghost use Rattle.machine.specs.Store.{part};
-ghost use Rattle.machine.specs.Calls.{stoppedBy, idled, reacted, tick, nextTask, finish, atWork};
+ghost use Rattle.machine.specs.Calls.{reacted, tick, nextTask, finish, atWork};
 ghost use Rattle.steps.specs.Rows.{boardBy, reactive};
 ghost use Rattle.calls.specs.States.{marked, standingIn, stateBy, served, turned, ended};
+ghost use Rattle.calls.specs.Lent.{lent, lentBy, setsHanded, setsFinished, stoppedNumbers, idledNumbers};
 ghost use Rattle.calls.specs.Fitting.{fitsOne};
 use bits::Found;
 use cells::Instant;
@@ -106,7 +107,8 @@ pub fn fits<'a, 'b>(
 // ---- start and tick
 
 fn stop(numbers: &mut [u32; 5], marks: &mut [u8; 2], fault: u8, task: u32)
-    ensures { λ _. ⌜ ((sets ports aside : List ℕ) → stateBy (now (numbers .exit)) (now (marks .exit)) sets ports aside ≡ stoppedBy fault task (stateBy (now (numbers .entry)) (now (marks .entry)) sets ports aside)) ⌝ }
+    ensures numbers { λ _. ⌜ now (numbers .exit) ≡ stoppedNumbers task (now (numbers .entry)) ⌝ }
+    ensures marks { λ _. ⌜ now (marks .exit) ≡ 1 ∷ fault ∷ [] ⌝ }
 {
     let clock = cells::at32(numbers, 0);
     let remaining = cells::at32(numbers, 1);
@@ -132,9 +134,12 @@ pub fn react_on<'a, 'b>(
     count: u32,
     words: &'b [u32],
 ) -> Reaction
-    ensures { λ r. ⌜ served r (stateBy (now (numbers .exit)) (now (marks .exit)) (now (sets .exit)) (now (ports .exit)) (now (aside .entry)))
+    ensures state { λ r. ⌜ served r (stateBy (now (numbers .exit)) (now (marks .exit)) (now (sets .exit)) (now (ports .exit)) (now (aside .entry)))
         ≡ reacted (reactive instructions (now (code .entry)) (now (drivers .entry)) (now (guards .entry)) (now (modes .entry)) (now (tasks .entry)))
         (stateBy (now (numbers .entry)) (now (marks .entry)) (now (sets .entry)) (now (ports .entry)) (now (aside .entry))) count (now (words .entry)) ⌝ }
+    ensures lent { λ _. ⌜ lent (now (numbers .exit)) (now (marks .exit)) (now (sets .exit))
+        ≡ lentBy (lent (now (numbers .entry)) (now (marks .entry)) (now (sets .entry))) (reacted (reactive instructions (now (code .entry)) (now (drivers .entry)) (now (guards .entry)) (now (modes .entry)) (now (tasks .entry)))
+        (stateBy (now (numbers .entry)) (now (marks .entry)) (now (sets .entry)) (now (ports .entry)) (now (aside .entry))) count (now (words .entry))) ⌝ }
 {
     let mode = cells::at32(numbers, 2);
     let pc = cells::at32(numbers, 3);
@@ -178,7 +183,7 @@ pub fn react_on<'a, 'b>(
 
 // The count is accepted, and less remains.
 fn idle(numbers: &mut [u32; 5], count: u32, left: u32)
-    ensures { λ _. ⌜ ((marks sets ports aside : List ℕ) → stateBy (now (numbers .exit)) marks sets ports aside ≡ idled (stateBy (now (numbers .entry)) marks sets ports aside) count left) ⌝ }
+    ensures { λ _. ⌜ now (numbers .exit) ≡ idledNumbers count left (now (numbers .entry)) ⌝ }
 {
     let mode = cells::at32(numbers, 2);
     let pc = cells::at32(numbers, 3);
@@ -205,9 +210,12 @@ pub fn tick_on<'a, 'b>(
     types: &'b [u32],
     words: &'b [u32],
 ) -> Reaction
-    ensures { λ r. ⌜ served r (stateBy (now (numbers .exit)) (now (marks .exit)) (now (sets .exit)) (now (ports .exit)) (now (aside .entry)))
+    ensures state { λ r. ⌜ served r (stateBy (now (numbers .exit)) (now (marks .exit)) (now (sets .exit)) (now (ports .exit)) (now (aside .entry)))
         ≡ tick (boardBy instructions (now (code .entry)) (now (drivers .entry)) (now (guards .entry)) (now (modes .entry)) (now (tasks .entry)) (now (wanted .entry)) [] sensors 0)
         (stateBy (now (numbers .entry)) (now (marks .entry)) (now (sets .entry)) (now (ports .entry)) (now (aside .entry))) count (now (types .entry)) (now (words .entry)) ⌝ }
+    ensures lent { λ _. ⌜ lent (now (numbers .exit)) (now (marks .exit)) (now (sets .exit))
+        ≡ lentBy (lent (now (numbers .entry)) (now (marks .entry)) (now (sets .entry))) (tick (boardBy instructions (now (code .entry)) (now (drivers .entry)) (now (guards .entry)) (now (modes .entry)) (now (tasks .entry)) (now (wanted .entry)) [] sensors 0)
+        (stateBy (now (numbers .entry)) (now (marks .entry)) (now (sets .entry)) (now (ports .entry)) (now (aside .entry))) count (now (types .entry)) (now (words .entry))) ⌝ }
 {
     if is_stopped(marks) {
         return Reaction::Refused(31);
@@ -245,8 +253,10 @@ pub fn tick_on<'a, 'b>(
 // ---- next task: the lowest-numbered one released and not yet handed out, or none
 
 pub fn next_on(marks: &[u8; 2], sets: &mut [u64; 3]) -> Turn
-    ensures { λ r. ⌜ ((numbers ports aside : List ℕ) → turned r (stateBy numbers (now (marks .entry)) (now (sets .exit)) ports aside)
+    ensures state { λ r. ⌜ ((numbers ports aside : List ℕ) → turned r (stateBy numbers (now (marks .entry)) (now (sets .exit)) ports aside)
         ≡ nextTask (stateBy numbers (now (marks .entry)) (now (sets .entry)) ports aside)) ⌝ }
+    ensures sets { λ _. ⌜ ((numbers ports aside : List ℕ) → now (sets .exit)
+        ≡ setsHanded (now (sets .entry)) (nextTask (stateBy numbers (now (marks .entry)) (now (sets .entry)) ports aside))) ⌝ }
 {
     if is_stopped(marks) {
         return Turn::Refused(31);
@@ -293,9 +303,12 @@ pub fn finish_on<'a, 'b>(
     types: &'b [u32],
     words: &'b [u32],
 ) -> Finishing
-    ensures { λ r. ⌜ ((numbers ports : List ℕ) → ended r (stateBy numbers (now (marks .entry)) (now (sets .exit)) ports (now (aside .exit)))
+    ensures state { λ r. ⌜ ((numbers ports : List ℕ) → ended r (stateBy numbers (now (marks .entry)) (now (sets .exit)) ports (now (aside .exit)))
         ≡ finish (boardBy 0 [] [] [] [] (now (tasks .entry)) (now (wanted .entry)) [] 0 0) (stateBy numbers (now (marks .entry)) (now (sets .entry)) ports (now (aside .entry)))
         task (now (types .entry)) (now (words .entry))) ⌝ }
+    ensures sets { λ _. ⌜ ((numbers ports : List ℕ) → now (sets .exit)
+        ≡ setsFinished (now (sets .entry)) (finish (boardBy 0 [] [] [] [] (now (tasks .entry)) (now (wanted .entry)) [] 0 0) (stateBy numbers (now (marks .entry)) (now (sets .entry)) ports (now (aside .entry)))
+        task (now (types .entry)) (now (words .entry)))) ⌝ }
 {
     if is_stopped(marks) {
         return Finishing::Refused(31);

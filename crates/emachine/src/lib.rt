@@ -1,11 +1,14 @@
 // The E-machine: one record of a table and a state, and its calls.
-// Promises: every call is its definition (document 01, 'The machine'), for every record, one that no start made included: the answer and every field.
+// Promises: every call is its definition (document 01, 'The machine'), for every record, one that no start made included: the answer, its number in
+// document 01, and every field.
 // Builds on the tables, on the calls of machine as definitions and of calls as code.
 ghost use mathlib.Core.Path.{_≡_};
+ghost use Rattle.machine.specs.Answers.{reactionMeans, turnMeans, finishingMeans};
 ghost use Rattle.machine.specs.Calls.{tick as tickOf, nextTask, finish as finishOf, look as lookOf, tasksOut};
 ghost use Rattle.machine.specs.declared.Reaction.the-variants.{Refused};
 ghost use Rattle.machine.specs.Starts.{startOn, noMachine};
 ghost use Rattle.emachine.specs.Machines.{boardIn, startBy, stateIn, machineOf, markOf, tickedOn, handedOn, finishedOn};
+ghost use Rattle.emachine.specs.Meanings.{startMeans, tickMeans, nextMeans, finishMeans};
 use calls::Standing;
 use machine::Finishing;
 use machine::Reaction;
@@ -43,7 +46,8 @@ fn mark(stopped: bool) -> u8
 
 // A tick at a count, with the types and words of the readings.
 pub fn tick<'b>(m: Machine, count: u32, types: &'b [u32], words: &'b [u32]) -> Ticked
-    ensures { λ r. ⌜ r ≡ tickedOn (m .table) (tickOf (boardIn (m .table)) (stateIn m) count (now (types .entry)) (now (words .entry))) ⌝ }
+    ensures machine { λ r. ⌜ r ≡ tickedOn (m .table) (tickOf (boardIn (m .table)) (stateIn m) count (now (types .entry)) (now (words .entry))) ⌝ }
+    ensures means { λ r. ⌜ reactionMeans (r .answer) ≡ tickMeans (boardIn (m .table)) (stateIn m) count (now (types .entry)) (now (words .entry)) ⌝ }
 {
     let at = m.standing;
     let mut numbers = [at.clock, at.remaining, at.mode, at.pc, at.late];
@@ -80,7 +84,8 @@ pub fn tick<'b>(m: Machine, count: u32, types: &'b [u32], words: &'b [u32]) -> T
 
 // The next task to run.
 pub fn next_task(m: Machine) -> Handed
-    ensures { λ r. ⌜ r ≡ handedOn (m .table) (nextTask (stateIn m)) ⌝ }
+    ensures machine { λ r. ⌜ r ≡ handedOn (m .table) (nextTask (stateIn m)) ⌝ }
+    ensures means { λ r. ⌜ turnMeans (r .answer) ≡ nextMeans (stateIn m) ⌝ }
 {
     let at = m.standing;
     let numbers = [at.clock, at.remaining, at.mode, at.pc, at.late];
@@ -98,7 +103,8 @@ pub fn next_task(m: Machine) -> Handed
 
 // A task is finished, with the types and words of its results.
 pub fn finish<'b>(m: Machine, task: u32, types: &'b [u32], words: &'b [u32]) -> Finished
-    ensures { λ r. ⌜ r ≡ finishedOn (m .table) (finishOf (boardIn (m .table)) (stateIn m) task (now (types .entry)) (now (words .entry))) ⌝ }
+    ensures machine { λ r. ⌜ r ≡ finishedOn (m .table) (finishOf (boardIn (m .table)) (stateIn m) task (now (types .entry)) (now (words .entry))) ⌝ }
+    ensures means { λ r. ⌜ finishingMeans (r .answer) ≡ finishMeans (boardIn (m .table)) (stateIn m) task (now (types .entry)) (now (words .entry)) ⌝ }
 {
     let at = m.standing;
     let numbers = [at.clock, at.remaining, at.mode, at.pc, at.late];
@@ -192,7 +198,8 @@ pub fn start_on<'b>(
     types: &'b [u32],
     words: &'b [u32],
 ) -> Ticked
-    ensures { λ r. ⌜ r ≡ tickedOn table (startOn sound (boardIn table) count (now (types .entry)) (now (words .entry))) ⌝ }
+    ensures machine { λ r. ⌜ r ≡ tickedOn table (startOn sound (boardIn table) count (now (types .entry)) (now (words .entry))) ⌝ }
+    ensures means { λ r. ⌜ reactionMeans (r .answer) ≡ startMeans sound (boardIn table) count (now (types .entry)) (now (words .entry)) ⌝ }
 {
     if !sound {
         return refused(table, 30);

@@ -15,6 +15,7 @@ ghost use Rattle.prescribed.specs.Compiles.{compileOf};
 ghost use Rattle.reading.specs.Readings.{readingOf, tableIn};
 ghost use Rattle.steps.specs.Rows.{boardBy};
 ghost use Rattle.calls.specs.States.{stateBy};
+ghost use Rattle.calls.specs.Lent.{lent, lentBy, setsHanded, setsFinished};
 ghost use Rattle.native.specs.Faces.{translation, countsIn, heldOf, faceOf, tickFace, turnFace, finishFace};
 ghost use Rattle.native.specs.Copies.{isRead, ticksFrom, ticksOf};
 use calls::Standing;
@@ -205,6 +206,10 @@ pub extern "C" fn native_tick<'a, 'b>(
     ensures state { λ _. ⌜ stateBy (now (numbers .exit)) (now (marks .exit)) (now (sets .exit)) (now (ports .exit)) (now (aside .entry))
         ≡ tick (boardBy instructions (now (code .entry)) (now (drivers .entry)) (now (guards .entry)) (now (modes .entry)) (now (tasks .entry)) (now (wanted .entry)) [] sensors 0)
         (stateBy (now (numbers .entry)) (now (marks .entry)) (now (sets .entry)) (now (ports .entry)) (now (aside .entry))) count (now (types .entry)) (now (words .entry)) .state ⌝ }
+    ensures lent { λ _. ⌜ lent (now (numbers .exit)) (now (marks .exit)) (now (sets .exit))
+        ≡ lentBy (lent (now (numbers .entry)) (now (marks .entry)) (now (sets .entry)))
+        (tick (boardBy instructions (now (code .entry)) (now (drivers .entry)) (now (guards .entry)) (now (modes .entry)) (now (tasks .entry)) (now (wanted .entry)) [] sensors 0)
+        (stateBy (now (numbers .entry)) (now (marks .entry)) (now (sets .entry)) (now (ports .entry)) (now (aside .entry))) count (now (types .entry)) (now (words .entry))) ⌝ }
 {
     let answer = calls::tick_on(
         instructions,
@@ -233,6 +238,8 @@ pub extern "C" fn native_next(marks: &[u8; 2], sets: &mut [u64; 3]) -> Face
     ensures answer { λ r. ⌜ ((numbers ports aside : List ℕ) → r ≡ turnFace (nextTask (stateBy numbers (now (marks .entry)) (now (sets .entry)) ports aside))) ⌝ }
     ensures state { λ _. ⌜ ((numbers ports aside : List ℕ) → stateBy numbers (now (marks .entry)) (now (sets .exit)) ports aside
         ≡ nextTask (stateBy numbers (now (marks .entry)) (now (sets .entry)) ports aside) .state) ⌝ }
+    ensures sets { λ _. ⌜ ((numbers ports aside : List ℕ) → now (sets .exit)
+        ≡ setsHanded (now (sets .entry)) (nextTask (stateBy numbers (now (marks .entry)) (now (sets .entry)) ports aside))) ⌝ }
 {
     let answer = calls::next_on(marks, sets);
     turn_face(answer)
@@ -255,6 +262,9 @@ pub extern "C" fn native_finish<'a, 'b>(
     ensures state { λ _. ⌜ ((numbers ports : List ℕ) → stateBy numbers (now (marks .entry)) (now (sets .exit)) ports (now (aside .exit))
         ≡ finish (boardBy 0 [] [] [] [] (now (tasks .entry)) (now (wanted .entry)) [] 0 0)
         (stateBy numbers (now (marks .entry)) (now (sets .entry)) ports (now (aside .entry))) task (now (types .entry)) (now (words .entry)) .state) ⌝ }
+    ensures sets { λ _. ⌜ ((numbers ports : List ℕ) → now (sets .exit)
+        ≡ setsFinished (now (sets .entry)) (finish (boardBy 0 [] [] [] [] (now (tasks .entry)) (now (wanted .entry)) [] 0 0)
+        (stateBy numbers (now (marks .entry)) (now (sets .entry)) ports (now (aside .entry))) task (now (types .entry)) (now (words .entry)))) ⌝ }
 {
     let answer = calls::finish_on(tasks, wanted, aside, marks, sets, task, types, words);
     finish_face(answer)

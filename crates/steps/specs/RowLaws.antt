@@ -5,12 +5,10 @@ use mathlib.Core.Path.{_≡_, refl, ap, _∙_}
 use mathlib.Core.Bool.{Bool, true, false, cond}
 use mathlib.Core.List.{List}
 use lib.ListN.{getD}
-use lib.Seq.{set-getD}
 use lib.Dec.{ltb}
 use borrow.Author.Tests.{ltb-true, ltb-false}
-use Rattle.machine.specs.Boards.{Board, Lot, noLot}
-use Rattle.machine.specs.Instructions.{ok}
-use Rattle.machine.specs.Store.{Store, driven, withPorts}
+use Rattle.model.specs.Instructions.{noDriver}
+use Rattle.machine.specs.Boards.{Lot, noLot}
 use Rattle.guards.specs.Tabs.{within-tab, past-tab}
 use Rattle.steps.specs.Rows.{driverAt, driverIn, lotAt, lotsBy, taskCell}
 
@@ -32,9 +30,9 @@ module _ (tasks : List ℕ) (task : ℕ) where
   pub lot-results : getD (lotsBy tasks) task noLot .results ≡ taskCell tasks task 3
   lot-results = lot-is (λ lot. lot .results) 3 refl refl
 
-module _ (drivers : List ℕ) (driver : ℕ) (b : Board) (aside : List ℕ) (s : Store) where
-  pub driver-within : driver < 288 → driven b aside (driverIn drivers driver) s ≡ driven b aside (driverAt drivers driver) s
-  driver-within within = rw (within-tab (driverAt drivers) 288 driver Rattle.model.specs.Instructions.noDriver within) refl
+module _ (drivers : List ℕ) (driver : ℕ) where
+  pub driver-within : driver < 288 → driverIn drivers driver ≡ driverAt drivers driver
+  driver-within within = within-tab (driverAt drivers) 288 driver noDriver within
 
-  pub driver-past : 288 ≤ driver → driven b aside (driverIn drivers driver) s ≡ ok s
-  driver-past past = rw (past-tab (driverAt drivers) 288 driver Rattle.model.specs.Instructions.noDriver past) (ap (λ (ports : List ℕ). ok (withPorts b aside s ports)) (set-getD (s .ports) 0 0))
+  pub driver-past : 288 ≤ driver → driverIn drivers driver ≡ noDriver
+  driver-past past = past-tab (driverAt drivers) 288 driver noDriver past

@@ -5,8 +5,8 @@ use mathlib.Core.Option.{Option, none, some}
 use mathlib.Core.List.{List}
 use lib.ListN.{length, getD}
 use lib.Dec.{ltb}
-use Rattle.model.specs.Instructions.{Instr, nop, future, call, release, iff, jump, return, switch}
-use Rattle.machine.specs.Words.{parted}
+use Rattle.model.specs.Instructions.{Instr, nop, future, call, release, iff, jump, return, switch, Driver, updates, releases, terminates}
+use Rattle.machine.specs.Words.{has, parted}
 use Rattle.machine.specs.Boards.{Board}
 use Rattle.machine.specs.Instructions.{Fault, late, wild, astray, clash, Res, ok, bad, Future, Halt}
 use Rattle.machine.specs.Store.{Store, storeOps}
@@ -151,6 +151,16 @@ abbrev pub drives : Driven → Core → List ℕ → Stepped
 drives Done core ports = stepped (Next core) ports
 drives (Over task) core ports = stepped (Next (worded (parted (core .out) task) (parted (core .finished) task) core)) ports
 drives (Late task) core ports = stepped (Ended (E.Late task)) ports
+
+-- what is told of a task that is to end: nothing if it is not out; that it is late, or that it is over
+abbrev pub toldOf : ℕ → ℕ → ℕ → Driven
+toldOf out finished task = cond (has out task) (cond (has finished task) (Over task) (Late task)) Done
+
+-- what a driver tells: only one that ends a task tells anything
+abbrev pub tells : ℕ → ℕ → Driver → Driven
+tells out finished (updates source target) = Done
+tells out finished (releases task sources) = Done
+tells out finished (terminates task) = toldOf out finished task
 
 abbrev pub promised : ℕ → ℕ → Core → Bool → After
 promised pc delay core true = Ended (E.Fault 42)

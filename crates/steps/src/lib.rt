@@ -9,7 +9,7 @@ ghost use Rattle.model.specs.Modules.{place as placed, copyTo};
 ghost use Rattle.machine.specs.Words.{has as hasOf};
 ghost use Rattle.machine.specs.Store.{part, ended, driven};
 ghost use Rattle.steps.specs.Rows.{rowOf, driverIn, beginsBy, reactive, taskCell};
-ghost use Rattle.steps.specs.Steps.{Core, settled, storeOf, worded, drives};
+ghost use Rattle.steps.specs.Steps.{Core, settled, storeOf, worded, drives, toldOf, tells};
 
 // An instruction: its opcode and arguments.
 pub struct Row {
@@ -132,7 +132,8 @@ fn terminate<'a>(
     out: u64,
     finished: u64,
 ) -> Driven
-    ensures { λ r. ⌜ ((core : Core) → drives r (worded out finished core) (now (ports .exit)) ≡ settled (worded out finished core) (now (ports .entry))
+    ensures answer { λ r. ⌜ r ≡ toldOf out finished task ⌝ }
+    ensures store { λ r. ⌜ ((core : Core) → drives r (worded out finished core) (now (ports .exit)) ≡ settled (worded out finished core) (now (ports .entry))
         (ended (reactive 0 [] [] [] [] (now (tasks .entry))) (now (aside .entry)) task (storeOf (worded out finished core) (now (ports .entry))) (hasOf out task) (hasOf finished task))) ⌝ }
 {
     if !bits::has(out, task) {
@@ -157,7 +158,8 @@ pub fn drive<'a>(
     out: u64,
     finished: u64,
 ) -> Driven
-    ensures { λ r. ⌜ ((core : Core) → drives r (worded out finished core) (now (ports .exit)) ≡ settled (worded out finished core) (now (ports .entry))
+    ensures answer { λ r. ⌜ r ≡ tells out finished (driverIn (now (drivers .entry)) driver) ⌝ }
+    ensures store { λ r. ⌜ ((core : Core) → drives r (worded out finished core) (now (ports .exit)) ≡ settled (worded out finished core) (now (ports .entry))
         (driven (reactive 0 [] (now (drivers .entry)) [] [] (now (tasks .entry))) (now (aside .entry)) (driverIn (now (drivers .entry)) driver) (storeOf (worded out finished core) (now (ports .entry))))) ⌝ }
 {
     if 288 <= driver {

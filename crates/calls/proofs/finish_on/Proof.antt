@@ -15,7 +15,9 @@ is-stopped-requires c κs = search needs
 
 returns : tie.Need-returns
 unfolding finish
-returns c = λ numbers ports. rw (sym (c .before .is-stopped .ensures) ∙ c .if1 .taken) refl
+returns c =
+    let stopped = sym (c .before .is-stopped .ensures) ∙ c .if1 .taken in
+    (λ numbers ports. rw stopped refl, λ numbers ports. rw stopped refl)
 
 word-at-requires : tie.Need-word-at-requires
 word-at-requires c κs = search needs
@@ -31,7 +33,15 @@ at-work-requires c κs = search needs
 
 returns-2 : tie.Need-returns-2
 unfolding finish
-returns-2 c = λ numbers ports. rw (sym (c .before .before .before .before .before .before .before .before .before .before .before .before .is-stopped .ensures) ∙ c .before .before .before .before .before .before .before .before .before .before .before .if1 .left, ← (c .before .before .before .before .before .before .before .before .word-at .ensures), ← (c .before .before .before .before .before .word-at2 .ensures), ← (c .before .before .word-at3 .ensures), sym (c .before .at-work .ensures ports) ∙ not-true _ (c .if2 .taken)) refl
+returns-2 c =
+    let live = sym (c .before .before .before .before .before .before .before .before .before .before .before .before .is-stopped .ensures) ∙ c .before .before .before .before .before .before .before .before .before .before .before .if1 .left in
+    let out = c .before .before .before .before .before .before .before .before .word-at .ensures in
+    let waiting = c .before .before .before .before .before .word-at2 .ensures in
+    let finished = c .before .before .word-at3 .ensures in
+    let idle = not-true _ (c .if2 .taken) in (
+      λ numbers ports. rw (live, ← out, ← waiting, ← finished, sym (c .before .at-work .ensures ports) ∙ idle) refl,
+      λ numbers ports. rw (live, ← out, ← waiting, ← finished, sym (c .before .at-work .ensures ports) ∙ idle) refl,
+    )
 
 task-cell-requires : tie.Need-task-cell-requires
 task-cell-requires c κs = search needs
@@ -44,7 +54,18 @@ fits-requires c κs = search needs
 
 returns-3 : tie.Need-returns-3
 unfolding finish
-returns-3 c = λ numbers ports. rw (sym (c .before .before .before .before .before .before .before .before .before .before .before .before .before .before .before .before .before .before .before .is-stopped .ensures) ∙ c .before .before .before .before .before .before .before .before .before .before .before .before .before .before .before .before .before .before .if1 .left, ← (c .before .before .before .before .before .before .before .before .before .before .before .before .before .before .before .word-at .ensures), ← (c .before .before .before .before .before .before .before .before .before .before .before .before .word-at2 .ensures), ← (c .before .before .before .before .before .before .before .before .before .word-at3 .ensures), sym (c .before .before .before .before .before .before .before .before .at-work .ensures ports) ∙ not-false _ (c .before .before .before .before .before .before .before .if2 .left), lot-outputs, lot-results, ← (c .before .before .before .before .before .task-cell .ensures), ← (c .before .before .before .task-cell2 .ensures), sym (c .before .fits2 .ensures) ∙ not-true _ (c .if3 .taken)) refl
+returns-3 c =
+    let live = sym (c .before .before .before .before .before .before .before .before .before .before .before .before .before .before .before .before .before .before .before .is-stopped .ensures) ∙ c .before .before .before .before .before .before .before .before .before .before .before .before .before .before .before .before .before .before .if1 .left in
+    let out = c .before .before .before .before .before .before .before .before .before .before .before .before .before .before .before .word-at .ensures in
+    let waiting = c .before .before .before .before .before .before .before .before .before .before .before .before .word-at2 .ensures in
+    let finished = c .before .before .before .before .before .before .before .before .before .word-at3 .ensures in
+    let work = not-false _ (c .before .before .before .before .before .before .before .if2 .left) in
+    let from = c .before .before .before .before .before .task-cell .ensures in
+    let count = c .before .before .before .task-cell2 .ensures in
+    let unfit = sym (c .before .fits2 .ensures) ∙ not-true _ (c .if3 .taken) in (
+      λ numbers ports. rw (live, ← out, ← waiting, ← finished, sym (c .before .before .before .before .before .before .before .before .at-work .ensures ports) ∙ work, lot-outputs, lot-results, ← from, ← count, unfit) refl,
+      λ numbers ports. rw (live, ← out, ← waiting, ← finished, sym (c .before .before .before .before .before .before .before .before .at-work .ensures ports) ∙ work, lot-outputs, lot-results, ← from, ← count, unfit) refl,
+    )
 
 mul-place : tie.Need-mul-place
 mul-place c = let store : Store = record { ports = []; out = c .before .before .before .before .before .before .before .before .before .before .before .before .before .before .before .word-at .result; waiting = c .before .before .before .before .before .before .before .before .before .before .before .before .word-at2 .result; finished = c .before .before .before .before .before .before .before .before .before .word-at3 .result } in
@@ -58,7 +79,18 @@ join-requires c κs = search needs
 
 returns-4 : tie.Need-returns-4
 unfolding finish
-returns-4 c = λ numbers ports. rw (sym (c .before .before .before .before .before .before .before .before .before .before .before .before .before .before .before .before .before .before .before .before .before .before .before .is-stopped .ensures) ∙ c .before .before .before .before .before .before .before .before .before .before .before .before .before .before .before .before .before .before .before .before .before .before .if1 .left, ← (c .before .before .before .before .before .before .before .before .before .before .before .before .before .before .before .before .before .before .before .word-at .ensures), ← (c .before .before .before .before .before .before .before .before .before .before .before .before .before .before .before .before .word-at2 .ensures), ← (c .before .before .before .before .before .before .before .before .before .before .before .before .before .word-at3 .ensures), sym (c .before .before .before .before .before .before .before .before .before .before .before .before .at-work .ensures ports) ∙ not-false _ (c .before .before .before .before .before .before .before .before .before .before .before .if2 .left), lot-outputs, lot-results, ← (c .before .before .before .before .before .before .before .before .before .task-cell .ensures), ← (c .before .before .before .before .before .before .before .task-cell2 .ensures), sym (c .before .before .before .before .before .fits2 .ensures) ∙ not-false _ (c .before .before .before .before .if3 .left), c .before .before .place .ensures, c .before .join .ensures) refl
+returns-4 c =
+    let live = sym (c .before .before .before .before .before .before .before .before .before .before .before .before .before .before .before .before .before .before .before .before .before .before .before .is-stopped .ensures) ∙ c .before .before .before .before .before .before .before .before .before .before .before .before .before .before .before .before .before .before .before .before .before .before .if1 .left in
+    let out = c .before .before .before .before .before .before .before .before .before .before .before .before .before .before .before .before .before .before .before .word-at .ensures in
+    let waiting = c .before .before .before .before .before .before .before .before .before .before .before .before .before .before .before .before .word-at2 .ensures in
+    let finished = c .before .before .before .before .before .before .before .before .before .before .before .before .before .word-at3 .ensures in
+    let work = not-false _ (c .before .before .before .before .before .before .before .before .before .before .before .if2 .left) in
+    let from = c .before .before .before .before .before .before .before .before .before .task-cell .ensures in
+    let count = c .before .before .before .before .before .before .before .task-cell2 .ensures in
+    let fit = sym (c .before .before .before .before .before .fits2 .ensures) ∙ not-false _ (c .before .before .before .before .if3 .left) in (
+      λ numbers ports. rw (live, ← out, ← waiting, ← finished, sym (c .before .before .before .before .before .before .before .before .before .before .before .before .at-work .ensures ports) ∙ work, lot-outputs, lot-results, ← from, ← count, fit, c .before .before .place .ensures, c .before .join .ensures) refl,
+      λ numbers ports. rw (live, ← out, ← waiting, ← finished, sym (c .before .before .before .before .before .before .before .before .before .before .before .before .at-work .ensures ports) ∙ work, lot-outputs, lot-results, ← from, ← count, fit, c .before .join .ensures) refl,
+    )
 
 pub finish-on-spec : {M : Type 1} → statement M
 finish-on-spec =

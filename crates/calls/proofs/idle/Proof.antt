@@ -13,7 +13,7 @@ at32-requires-3 : tie.Need-at32-requires-3
 at32-requires-3 c κs = search needs
 
 returns : tie.Need-returns
-returns c = λ marks sets ports aside. rw (c .before .at323 .ensures, c .before .before .before .before .at322 .ensures, c .before .before .before .before .before .before .before .at32 .ensures) refl
+returns c = rw (c .before .at323 .ensures, c .before .before .before .before .at322 .ensures, c .before .before .before .before .before .before .before .at32 .ensures) refl
 
 pub idle-spec : {M : Type 1} → statement M
 idle-spec = tie.close (tie.spec at32-requires at32-requires-2 at32-requires-3 returns)

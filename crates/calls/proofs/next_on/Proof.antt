@@ -11,7 +11,9 @@ is-stopped-requires c κs = search needs
 
 returns : tie.Need-returns
 unfolding nextTask
-returns c = λ numbers ports aside. rw (sym (c .before .is-stopped .ensures) ∙ c .if1 .taken) refl
+returns c =
+    let stopped = sym (c .before .is-stopped .ensures) ∙ c .if1 .taken in
+    (λ numbers ports aside. rw stopped refl, λ numbers ports aside. rw stopped refl)
 
 word-at-requires : tie.Need-word-at-requires
 word-at-requires c κs = search needs
@@ -36,11 +38,23 @@ enum-told c = search needs
 
 returns-2 : tie.Need-returns-2
 unfolding nextTask
-returns-2 c = λ numbers ports aside. rw (sym (c .before .before .before .before .before .before .before .before .before .before .before .before .before .before .before .before .is-stopped .ensures) ∙ c .before .before .before .before .before .before .before .before .before .before .before .before .before .before .before .if1 .left, ← (c .before .before .before .before .before .before .before .before .before .before .before .before .word-at .ensures), ← (c .before .before .before .before .before .before .before .before .before .word-at2 .ensures), ← (c .before .before .before .before .before .before .word-at3 .ensures), task-is (lowestIn (c .before .before .before .before .before .before .before .before .before .word-at2 .result)) _ (sym (c .before .before .before .before .before .lowest .ensures) ∙ c .before .before .before .found .given .1), c .before .part .ensures) refl
+returns-2 c =
+    let live = sym (c .before .before .before .before .before .before .before .before .before .before .before .before .before .before .before .before .is-stopped .ensures) ∙ c .before .before .before .before .before .before .before .before .before .before .before .before .before .before .before .if1 .left in
+    let out = c .before .before .before .before .before .before .before .before .before .before .before .before .word-at .ensures in
+    let waiting = c .before .before .before .before .before .before .before .before .before .word-at2 .ensures in
+    let finished = c .before .before .before .before .before .before .word-at3 .ensures in
+    let task = task-is (lowestIn (c .before .before .before .before .before .before .before .before .before .word-at2 .result)) _ (sym (c .before .before .before .before .before .lowest .ensures) ∙ c .before .before .before .found .given .1) in (
+      λ numbers ports aside. rw (live, ← out, ← waiting, ← finished, task, c .before .part .ensures) refl,
+      λ numbers ports aside. rw (live, ← out, ← waiting, ← finished, task, c .before .part .ensures) refl,
+    )
 
 returns-3 : tie.Need-returns-3
 unfolding nextTask
-returns-3 c = λ numbers ports aside. rw (sym (c .before .before .before .before .before .before .before .before .before .before .before .before .before .is-stopped .ensures) ∙ c .before .before .before .before .before .before .before .before .before .before .before .before .if1 .left, ← (c .before .before .before .before .before .before .word-at2 .ensures), nobody-is (lowestIn (c .before .before .before .before .before .before .word-at2 .result)) (sym (c .before .before .lowest .ensures) ∙ c .enum-told .given .1)) refl
+returns-3 c =
+    let live = sym (c .before .before .before .before .before .before .before .before .before .before .before .before .before .is-stopped .ensures) ∙ c .before .before .before .before .before .before .before .before .before .before .before .before .if1 .left in
+    let waiting = c .before .before .before .before .before .before .word-at2 .ensures in
+    let nobody = nobody-is (lowestIn (c .before .before .before .before .before .before .word-at2 .result)) (sym (c .before .before .lowest .ensures) ∙ c .enum-told .given .1) in
+    (λ numbers ports aside. rw (live, ← waiting, nobody) refl, λ numbers ports aside. rw (live, ← waiting, nobody) refl)
 
 pub next-on-spec : {M : Type 1} → statement M
 next-on-spec =

@@ -1,4 +1,5 @@
 use Rattle.calls.specs.States.{stateBy, closed, closes-reaction}
+use Rattle.calls.specs.Lent.{lent, lentBy}
 use Rattle.steps.specs.Rows.{reactive}
 use denote.Ref.{now}
 use mathlib.Core.Path.{ap, _∙_}
@@ -43,16 +44,34 @@ stop-requires-2 : tie.Need-stop-requires-2
 stop-requires-2 c κs = search needs
 
 returns : tie.Need-returns
-returns c = let a = c .before .before .before .before .before .before .before .before .before .before .before .before .before .before .before .before .before .before .before .before .before .before .before .before .before .before .args in rw (c .before .before .before .before .before .before .before .before .before .before .before .before .before .before .before .before .at323 .ensures) ((rw (c .before .before .before .ending .given .1, c .before .before .before .before .before .before .before .before .before .before .before .before .before .before .before .before .before .before .before .before .before .before .at32 .ensures, c .before .before .before .before .before .before .before .before .before .before .before .before .before .before .before .before .before .before .before .at322 .ensures, c .before .before .before .before .before .before .before .before .before .before .before .before .before .word-at .ensures, c .before .before .before .before .before .before .before .before .before .before .word-at2 .ensures, c .before .before .before .before .before .before .before .word-at3 .ensures) at (ap (closed (stateBy (now (a .numbers)) (now (a .marks)) (now (a .sets)) (now (a .ports)) (now (a .aside))) (a .count)) (c .before .before .before .before .before .react .ensures)))
-    ∙ closes-reaction (reactive (a .instructions) (now (a .code)) (now (a .drivers)) (now (a .guards)) (now (a .modes)) (now (a .tasks))) (stateBy (now (a .numbers)) (now (a .marks)) (now (a .sets)) (now (a .ports)) (now (a .aside))) (a .count) (now (a .words)))
+returns c =
+    let a = c .before .before .before .before .before .before .before .before .before .before .before .before .before .before .before .before .before .before .before .before .before .before .before .before .before .before .args in
+    let m = stateBy (now (a .numbers)) (now (a .marks)) (now (a .sets)) (now (a .ports)) (now (a .aside)) in
+    let done =
+    (rw (c .before .before .before .ending .given .1, c .before .before .before .before .before .before .before .before .before .before .before .before .before .before .before .before .before .before .before .before .before .before .at32 .ensures, c .before .before .before .before .before .before .before .before .before .before .before .before .before .before .before .before .before .before .before .at322 .ensures, c .before .before .before .before .before .before .before .before .before .before .before .before .before .word-at .ensures, c .before .before .before .before .before .before .before .before .before .before .word-at2 .ensures, c .before .before .before .before .before .before .before .word-at3 .ensures) at (ap (closed m (a .count)) (c .before .before .before .before .before .react .ensures)))
+    ∙ closes-reaction (reactive (a .instructions) (now (a .code)) (now (a .drivers)) (now (a .guards)) (now (a .modes)) (now (a .tasks))) m (a .count) (now (a .words)) in
+    let held = lentBy (lent (now (a .numbers)) (now (a .marks)) (now (a .sets))) in
+    (rw (c .before .before .before .before .before .before .before .before .before .before .before .before .before .before .before .before .at323 .ensures) done, rw (c .before .before .before .before .before .before .before .before .before .before .before .before .before .before .before .before .at323 .ensures) (ap held done))
 
 returns-2 : tie.Need-returns-2
-returns-2 c = let a = c .before .before .before .before .before .before .before .before .before .before .before .before .before .before .before .before .before .before .before .before .before .before .before .before .before .before .before .args in rw (c .stop .ensures _ _ _) ((rw (c .before .before .before .before .ending2 .given .1, c .before .before .before .before .before .before .before .before .before .before .before .before .before .before .before .before .before .before .before .before .before .before .before .at32 .ensures, c .before .before .before .before .before .before .before .before .before .before .before .before .before .before .before .before .before .before .before .before .at322 .ensures, c .before .before .before .before .before .before .before .before .before .before .before .before .before .before .word-at .ensures, c .before .before .before .before .before .before .before .before .before .before .before .word-at2 .ensures, c .before .before .before .before .before .before .before .before .word-at3 .ensures) at (ap (closed (stateBy (now (a .numbers)) (now (a .marks)) (now (a .sets)) (now (a .ports)) (now (a .aside))) (a .count)) (c .before .before .before .before .before .before .react .ensures)))
-    ∙ closes-reaction (reactive (a .instructions) (now (a .code)) (now (a .drivers)) (now (a .guards)) (now (a .modes)) (now (a .tasks))) (stateBy (now (a .numbers)) (now (a .marks)) (now (a .sets)) (now (a .ports)) (now (a .aside))) (a .count) (now (a .words)))
+returns-2 c =
+    let a = c .before .before .before .before .before .before .before .before .before .before .before .before .before .before .before .before .before .before .before .before .before .before .before .before .before .before .before .args in
+    let m = stateBy (now (a .numbers)) (now (a .marks)) (now (a .sets)) (now (a .ports)) (now (a .aside)) in
+    let done =
+    (rw (c .before .before .before .before .ending2 .given .1, c .before .before .before .before .before .before .before .before .before .before .before .before .before .before .before .before .before .before .before .before .before .before .before .at32 .ensures, c .before .before .before .before .before .before .before .before .before .before .before .before .before .before .before .before .before .before .before .before .at322 .ensures, c .before .before .before .before .before .before .before .before .before .before .before .before .before .before .word-at .ensures, c .before .before .before .before .before .before .before .before .before .before .before .word-at2 .ensures, c .before .before .before .before .before .before .before .before .word-at3 .ensures) at (ap (closed m (a .count)) (c .before .before .before .before .before .before .react .ensures)))
+    ∙ closes-reaction (reactive (a .instructions) (now (a .code)) (now (a .drivers)) (now (a .guards)) (now (a .modes)) (now (a .tasks))) m (a .count) (now (a .words)) in
+    let held = lentBy (lent (now (a .numbers)) (now (a .marks)) (now (a .sets))) in
+    (rw (c .stop .ensures .0, c .stop .ensures .1) done, rw (c .stop .ensures .0, c .stop .ensures .1) (ap held done))
 
 returns-3 : tie.Need-returns-3
-returns-3 c = let a = c .before .before .before .before .before .before .before .before .before .before .before .before .before .before .before .before .before .before .before .before .before .before .before .before .before .before .before .args in rw (c .stop2 .ensures _ _ _) ((rw (c .before .before .before .before .ending3 .given .1, c .before .before .before .before .before .before .before .before .before .before .before .before .before .before .before .before .before .before .before .before .before .before .before .at32 .ensures, c .before .before .before .before .before .before .before .before .before .before .before .before .before .before .before .before .before .before .before .before .at322 .ensures, c .before .before .before .before .before .before .before .before .before .before .before .before .before .before .word-at .ensures, c .before .before .before .before .before .before .before .before .before .before .before .word-at2 .ensures, c .before .before .before .before .before .before .before .before .word-at3 .ensures) at (ap (closed (stateBy (now (a .numbers)) (now (a .marks)) (now (a .sets)) (now (a .ports)) (now (a .aside))) (a .count)) (c .before .before .before .before .before .before .react .ensures)))
-    ∙ closes-reaction (reactive (a .instructions) (now (a .code)) (now (a .drivers)) (now (a .guards)) (now (a .modes)) (now (a .tasks))) (stateBy (now (a .numbers)) (now (a .marks)) (now (a .sets)) (now (a .ports)) (now (a .aside))) (a .count) (now (a .words)))
+returns-3 c =
+    let a = c .before .before .before .before .before .before .before .before .before .before .before .before .before .before .before .before .before .before .before .before .before .before .before .before .before .before .before .args in
+    let m = stateBy (now (a .numbers)) (now (a .marks)) (now (a .sets)) (now (a .ports)) (now (a .aside)) in
+    let done =
+    (rw (c .before .before .before .before .ending3 .given .1, c .before .before .before .before .before .before .before .before .before .before .before .before .before .before .before .before .before .before .before .before .before .before .before .at32 .ensures, c .before .before .before .before .before .before .before .before .before .before .before .before .before .before .before .before .before .before .before .before .at322 .ensures, c .before .before .before .before .before .before .before .before .before .before .before .before .before .before .word-at .ensures, c .before .before .before .before .before .before .before .before .before .before .before .word-at2 .ensures, c .before .before .before .before .before .before .before .before .word-at3 .ensures) at (ap (closed m (a .count)) (c .before .before .before .before .before .before .react .ensures)))
+    ∙ closes-reaction (reactive (a .instructions) (now (a .code)) (now (a .drivers)) (now (a .guards)) (now (a .modes)) (now (a .tasks))) m (a .count) (now (a .words)) in
+    let held = lentBy (lent (now (a .numbers)) (now (a .marks)) (now (a .sets))) in
+    (rw (c .stop2 .ensures .0, c .stop2 .ensures .1) done, rw (c .stop2 .ensures .0, c .stop2 .ensures .1) (ap held done))
 
 pub react-on-spec : {M : Type 1} → statement M
 react-on-spec =

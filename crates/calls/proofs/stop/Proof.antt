@@ -16,7 +16,7 @@ at32-requires-4 : tie.Need-at32-requires-4
 at32-requires-4 c κs = search needs
 
 returns : tie.Need-returns
-returns c = λ sets ports aside. rw (c .before .before .at324 .ensures, c .before .before .before .before .before .at323 .ensures, c .before .before .before .before .before .before .before .before .at322 .ensures, c .before .before .before .before .before .before .before .before .before .before .before .at32 .ensures) refl
+returns c = (rw (c .before .before .at324 .ensures, c .before .before .before .before .before .at323 .ensures, c .before .before .before .before .before .before .before .before .at322 .ensures, c .before .before .before .before .before .before .before .before .before .before .before .at32 .ensures) refl, refl)
 
 pub stop-spec : {M : Type 1} → statement M
 stop-spec =

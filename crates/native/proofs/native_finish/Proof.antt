@@ -15,8 +15,8 @@ finish-face-requires c κs = search needs
 
 returns : tie.Need-returns
 returns c = (
-  λ numbers ports. c .finish-face .ensures ∙ ap finishFace (c .before .finish-on .ensures numbers ports),
-  λ numbers ports. ap (λ (t : Finished). t .state) (c .before .finish-on .ensures numbers ports),
+  λ numbers ports. c .finish-face .ensures ∙ ap finishFace (c .before .finish-on .ensures .0 numbers ports),
+  (λ numbers ports. ap (λ (t : Finished). t .state) (c .before .finish-on .ensures .0 numbers ports), c .before .finish-on .ensures .1),
 )
 
 pub native-finish-spec : {M : Type 1} → statement M

@@ -15,8 +15,8 @@ turn-face-requires c κs = search needs
 
 returns : tie.Need-returns
 returns c = (
-  λ numbers ports aside. c .turn-face .ensures ∙ ap turnFace (c .before .next-on .ensures numbers ports aside),
-  λ numbers ports aside. ap (λ (t : Handed). t .state) (c .before .next-on .ensures numbers ports aside),
+  λ numbers ports aside. c .turn-face .ensures ∙ ap turnFace (c .before .next-on .ensures .0 numbers ports aside),
+  (λ numbers ports aside. ap (λ (t : Handed). t .state) (c .before .next-on .ensures .0 numbers ports aside), c .before .next-on .ensures .1),
 )
 
 pub native-next-spec : {M : Type 1} → statement M

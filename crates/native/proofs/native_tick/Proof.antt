@@ -14,7 +14,10 @@ tick-face-requires : tie.Need-tick-face-requires
 tick-face-requires c κs = search needs
 
 returns : tie.Need-returns
-returns c = (c .tick-face .ensures ∙ ap tickFace (c .before .tick-on .ensures), ap (λ (t : Ticked). t .state) (c .before .tick-on .ensures))
+returns c = (
+  c .tick-face .ensures ∙ ap tickFace (c .before .tick-on .ensures .0),
+  (ap (λ (t : Ticked). t .state) (c .before .tick-on .ensures .0), c .before .tick-on .ensures .1),
+)
 
 pub native-tick-spec : {M : Type 1} → statement M
 native-tick-spec =

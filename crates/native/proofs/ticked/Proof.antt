@@ -40,7 +40,7 @@ loop-again c =
     let a = at-loop .before .before .before .args in (
       search needs,
       ap (λ (served : Ticked). ticksFrom (a .later) (now (a .types)) (now (a .words)) (a .times - (at-loop .loop .k + 1)) (served .machine))
-          (c .before .tick .ensures ∙ ap (λ (count : ℕ). tickedOn (m .table) (tick (boardIn (m .table)) (stateIn m) count (now (a .types)) (now (a .words)))) (c .before .before .wrapping-add-u32 .ensures))
+          (c .before .tick .ensures .0 ∙ ap (λ (count : ℕ). tickedOn (m .table) (tick (boardIn (m .table)) (stateIn m) count (now (a .types)) (now (a .words)))) (c .before .before .wrapping-add-u32 .ensures))
           ∙ ticks-on (a .later) (now (a .types)) (now (a .words)) (a .times) (at-loop .loop .k) m (c .before .before .before .loop-test .taken)
           ∙ at-loop .loop .inv .1,
     )

@@ -67,7 +67,7 @@ loop-less-2 c = search needs
 
 loop-again-2 : tie.Need-loop-again-2 Inv-loop μ-loop
 loop-again-2 c = let a = c .before .before .before .before .before .before .before .before .before .before .before .before .before .args in let l = c .before .before .before .before .before .before .before .before .before .before .before .before .loop in let row = c .before .before .before .before .before .before .before .before .row-at .result in
-    (omega arith, λ before. row-on (a .instructions) (now (a .code)) (now (a .drivers)) (now (a .guards)) (now (a .modes)) (now (a .tasks)) (now (a .aside)) before _ (l .steps) (carries (l .at) (l .serving) (l .pledged) (l .next) (l .delay) (l .released) (l .waits) (l .done)) (l .ports) (l .inv .1 before) (c .before .before .before .before .before .before .before .before .before .before .before .loop-test .taken) row (c .before .before .before .before .before .before .before .before .row-at .ensures) (c .before .before .before .before .before .before .before .before .before .before .if1 .left) (carries (l .at + 1) (l .serving) (l .pledged) (l .next) (l .delay) (l .released) (l .waits) (l .done)) _ (rw (c .before .before .before .before .before .before .before .match .keys2) (rw (c .enum-told .given .1) at (c .before .before .drive .ensures (carries (l .at + 1) (l .serving) (l .pledged) (l .next) (l .delay) (l .released) (l .waits) (l .done))))))
+    (omega arith, λ before. row-on (a .instructions) (now (a .code)) (now (a .drivers)) (now (a .guards)) (now (a .modes)) (now (a .tasks)) (now (a .aside)) before _ (l .steps) (carries (l .at) (l .serving) (l .pledged) (l .next) (l .delay) (l .released) (l .waits) (l .done)) (l .ports) (l .inv .1 before) (c .before .before .before .before .before .before .before .before .before .before .before .loop-test .taken) row (c .before .before .before .before .before .before .before .before .row-at .ensures) (c .before .before .before .before .before .before .before .before .before .before .if1 .left) (carries (l .at + 1) (l .serving) (l .pledged) (l .next) (l .delay) (l .released) (l .waits) (l .done)) _ (rw (c .before .before .before .before .before .before .before .match .keys2) (rw (c .enum-told .given .1) at (c .before .before .drive .ensures .1 (carries (l .at + 1) (l .serving) (l .pledged) (l .next) (l .delay) (l .released) (l .waits) (l .done))))))
 
 enum-known-driven : tie.Need-enum-known-driven Inv-loop μ-loop
 enum-known-driven c = search needs
@@ -83,7 +83,7 @@ loop-less-3 c = search needs
 
 loop-again-3 : tie.Need-loop-again-3 Inv-loop μ-loop
 loop-again-3 c = let a = c .before .before .before .before .before .before .before .before .before .before .before .before .before .before .before .before .args in let l = c .before .before .before .before .before .before .before .before .before .before .before .before .before .before .before .loop in let row = c .before .before .before .before .before .before .before .before .before .before .before .row-at .result in
-    (omega arith, λ before. row-on (a .instructions) (now (a .code)) (now (a .drivers)) (now (a .guards)) (now (a .modes)) (now (a .tasks)) (now (a .aside)) before _ (l .steps) (carries (l .at) (l .serving) (l .pledged) (l .next) (l .delay) (l .released) (l .waits) (l .done)) (l .ports) (l .inv .1 before) (c .before .before .before .before .before .before .before .before .before .before .before .before .before .before .loop-test .taken) row (c .before .before .before .before .before .before .before .before .before .before .before .row-at .ensures) (c .before .before .before .before .before .before .before .before .before .before .before .before .before .if1 .left) (carries (l .at + 1) (l .serving) (l .pledged) (l .next) (l .delay) (c .before .part .result) (l .waits) (c .part2 .result)) _ (rw (c .before .before .before .before .before .before .before .before .before .before .match .keys2, c .part2 .ensures, c .before .part .ensures) (rw (c .before .before .before .driven .given .1) at (c .before .before .before .before .before .drive .ensures (carries (l .at + 1) (l .serving) (l .pledged) (l .next) (l .delay) (l .released) (l .waits) (l .done))))))
+    (omega arith, λ before. row-on (a .instructions) (now (a .code)) (now (a .drivers)) (now (a .guards)) (now (a .modes)) (now (a .tasks)) (now (a .aside)) before _ (l .steps) (carries (l .at) (l .serving) (l .pledged) (l .next) (l .delay) (l .released) (l .waits) (l .done)) (l .ports) (l .inv .1 before) (c .before .before .before .before .before .before .before .before .before .before .before .before .before .before .loop-test .taken) row (c .before .before .before .before .before .before .before .before .before .before .before .row-at .ensures) (c .before .before .before .before .before .before .before .before .before .before .before .before .before .if1 .left) (carries (l .at + 1) (l .serving) (l .pledged) (l .next) (l .delay) (c .before .part .result) (l .waits) (c .part2 .result)) _ (rw (c .before .before .before .before .before .before .before .before .before .before .match .keys2, c .part2 .ensures, c .before .part .ensures) (rw (c .before .before .before .driven .given .1) at (c .before .before .before .before .before .drive .ensures .1 (carries (l .at + 1) (l .serving) (l .pledged) (l .next) (l .delay) (l .released) (l .waits) (l .done))))))
 
 enum-known-driven-2 : tie.Need-enum-known-driven-2 Inv-loop μ-loop
 enum-known-driven-2 c = search needs
@@ -93,7 +93,7 @@ late-requires c κs = search needs
 
 returns-3 : tie.Need-returns-3 Inv-loop μ-loop
 returns-3 c = let a = c .before .before .before .before .before .before .before .before .before .before .before .before .before .before .before .args in let l = c .before .before .before .before .before .before .before .before .before .before .before .before .before .before .loop in let row = c .before .before .before .before .before .before .before .before .before .before .row-at .result in
-    λ before. rw (c .late .ensures) (row-ends (a .instructions) (now (a .code)) (now (a .drivers)) (now (a .guards)) (now (a .modes)) (now (a .tasks)) (now (a .aside)) before _ (l .steps) (carries (l .at) (l .serving) (l .pledged) (l .next) (l .delay) (l .released) (l .waits) (l .done)) (l .ports) (l .inv .1 before) (c .before .before .before .before .before .before .before .before .before .before .before .before .before .loop-test .taken) row (c .before .before .before .before .before .before .before .before .before .before .row-at .ensures) (c .before .before .before .before .before .before .before .before .before .before .before .before .if1 .left) (E.Late (c .before .before .driven2 .given .0 .0)) (c .before .before .before .before .drive .last .1 .1 .1 .1 .0) (rw (c .before .before .before .before .before .before .before .before .before .match .keys2) (rw (c .before .before .driven2 .given .1) at (c .before .before .before .before .drive .ensures (carries (l .at + 1) (l .serving) (l .pledged) (l .next) (l .delay) (l .released) (l .waits) (l .done))))))
+    λ before. rw (c .late .ensures) (row-ends (a .instructions) (now (a .code)) (now (a .drivers)) (now (a .guards)) (now (a .modes)) (now (a .tasks)) (now (a .aside)) before _ (l .steps) (carries (l .at) (l .serving) (l .pledged) (l .next) (l .delay) (l .released) (l .waits) (l .done)) (l .ports) (l .inv .1 before) (c .before .before .before .before .before .before .before .before .before .before .before .before .before .loop-test .taken) row (c .before .before .before .before .before .before .before .before .before .before .row-at .ensures) (c .before .before .before .before .before .before .before .before .before .before .before .before .if1 .left) (E.Late (c .before .before .driven2 .given .0 .0)) (c .before .before .before .before .drive .last .1 .1 .1 .1 .0) (rw (c .before .before .before .before .before .before .before .before .before .match .keys2) (rw (c .before .before .driven2 .given .1) at (c .before .before .before .before .drive .ensures .1 (carries (l .at + 1) (l .serving) (l .pledged) (l .next) (l .delay) (l .released) (l .waits) (l .done))))))
 
 has-requires : tie.Need-has-requires Inv-loop μ-loop
 has-requires c κs = search needs

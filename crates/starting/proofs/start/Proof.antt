@@ -11,7 +11,9 @@ start-on-requires : tie.Need-start-on-requires
 start-on-requires c κs = search needs
 
 returns : tie.Need-returns
-returns c = started _ _ _ _ _ (rw (c .before .sound .ensures .0) at (c .start-on .ensures))
+returns c =
+    let judged = c .before .sound .ensures .0 in
+    (started _ _ _ _ _ (rw judged at (c .start-on .ensures .0)), rw judged at (c .start-on .ensures .1))
 
 pub start-spec : {M : Type 1} → statement M
 start-spec = tie.close (tie.spec sound-requires start-on-requires returns)

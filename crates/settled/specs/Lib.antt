@@ -1,0 +1,6 @@
+pub mod Settled
+pub mod Files
+pub mod Machines
+pub mod Arrays
+pub mod Words
+pub mod References
