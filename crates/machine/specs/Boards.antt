@@ -14,11 +14,11 @@ use Rattle.model.specs.declared.Operand.the-variants.{Port, Fixed}
 use Rattle.model.specs.declared.Guard.{Guard}
 use Rattle.file.specs.Tables.{Argument, port, fixed, GuardRow, ModeRow, Table}
 
--- the room of all ports, and of results aside: eight words for each task
+-- the room of all ports: sensors, actuators, inputs and outputs
 abbrev pub boardRoom : ℕ
 boardRoom = sensorRoom + actuatorRoom + allPortRoom + allPortRoom
 
--- results aside: 8 for each of 32 tasks
+-- the room of results aside: 8 for each of 32 tasks
 abbrev pub asideRoom : ℕ
 asideRoom = taskRoom * portRoom
 

@@ -20,7 +20,7 @@ use Rattle.machine.specs.Instructions.{Res, ok, bad, Halt, Run, Tally}
 use Rattle.machine.specs.Store.{Store, part, lotOf, reaction}
 
 -- Everything that look shows: the last accepted count, what remains, the mode, where the next reaction begins, the ports, the tasks out,
--- waiting and finished, results aside; whether the machine is stopped, by which fault, and which task was late.
+-- waiting and finished, results aside (of no meaning where the task is not finished); whether the machine is stopped, by which fault, and which task was late.
 pub record State : Type 0 where
   pub clock : ℕ
   pub remaining : ℕ
@@ -90,11 +90,11 @@ cameTo m count tally (ok halt) =
     }
 cameTo m count tally (bad fault) = faulted fault m
 
--- Sensors take the host's reading, then one reaction.
+-- sensors take the host's readings
 abbrev pub sensed : List ℕ → Store → Store
 sensed words s = record { ports = place 0 words (s .ports); out = s .out; waiting = s .waiting; finished = s .finished }
 
--- a due tick
+-- a start or a due tick: sensors take the readings, then one reaction
 unfoldable pub reacted : Board → State → ℕ → List ℕ → Ticked
 reacted b m count words =
     let run = reaction b (m .aside) (m .mode) (m .pc) (sensed words (m .store)) in

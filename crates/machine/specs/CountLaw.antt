@@ -1,4 +1,4 @@
--- Releases so far equal terminations plus tasks out, over every history of calls: terminations of tasks that were out, tasks out by the word.
+-- Laws: releases so far equal terminations plus tasks out, over every history of calls: terminations of tasks that were out, tasks out by the word.
 use Prim.Native.Nat.{ℕ, zero, suc, _+_, _-_, _^_, _<_}
 use native.Mathlib.Omega.{arith}
 use mathlib.Core.Path.{_≡_, refl, ap}
@@ -20,10 +20,12 @@ use Rattle.machine.specs.WordLaws.{has-within, hasnt-bit, set-fits, coun
 use Rattle.machine.specs.Boards.{Board}
 use Rattle.machine.specs.Instructions.{late, wild, astray, clash, Res, ok, bad, Future, Tally, noTally, counted, step, Halt, Run, goOn, exec}
 use Rattle.machine.specs.Store.{Store, driven, ended, endingBy, driverAt, released, storeOps, reaction}
-use Rattle.machine.specs.Calls.{State, cameTo, reacted, sensed, readingTypes, byInstant, tick, nextTask, finish, tasksOut}
+use Rattle.machine.specs.Calls as C
+use Rattle.machine.specs.Calls.{State, Ticked, cameTo, reacted, sensed, readingTypes, byInstant, nextTask, tasksOut}
+use Rattle.machine.specs.Asks.{Ask, tick, next, finish, Asked, asks, behind}
 use Rattle.machine.specs.Leaves.{next-leaves, LeavesNext, finish-leaves, LeavesFinish}
 use Rattle.machine.specs.Starts.{fresh}
-use Rattle.machine.specs.Counts.{Call, ticks, asks, ends, tallyAt, tallyBy, tickTally, Account, counting, called, history, opened}
+use Rattle.machine.specs.Counts.{ifObeyed, tallyAt, tallyOf, Account, counting, history, opened}
 
 -- ---- code whose releases name tasks that a word can hold
 
@@ -65,7 +67,7 @@ Settled first n (bad fault) = Unit {0}
 
 abbrev Squared : ℕ → Tally → Res (Halt Store) → Type 0
 Squared first tally (ok halt) = Square first tally (halt .store)
-Squared first tally (bad fault) = tally ≡ noTally
+Squared first tally (bad fault) = Unit {0}
 
 part-small : (word task : ℕ) → word < 2 ^ 64 → parted word task < 2 ^ 64
 part-small word task small = go (has word task)
@@ -113,12 +115,12 @@ module _ (b : Board) (aside : List ℕ) (first : ℕ) (fine : Within (b .code)) 
   run-square : (most : ℕ) (rest : List Instr) (mode : ℕ) (u : Option Future) (n : Tally) (s : Store) → Within rest → Square first n s
       → Squared first (runs most rest mode u n s .tally) (runs most rest mode u n s .res)
   unfolding exec
-  run-square zero rest mode u n s safe square = refl
-  run-square (suc most) [] mode u n s safe square = refl
+  run-square zero rest mode u n s safe square = tt
+  run-square (suc most) [] mode u n s safe square = tt
   run-square (suc most) (nop marker ∷ rest) mode u n s safe square = run-square most rest mode u (step n) s (safe .1) (record { word = square .word; books = square .books })
   run-square (suc most) (future pc delay ∷ rest) mode none n s safe square =
       run-square most rest mode (some (record { pc = pc; delay = delay })) (step n) s (safe .1) (record { word = square .word; books = square .books })
-  run-square (suc most) (future pc delay ∷ rest) mode (some promised) n s safe square = refl
+  run-square (suc most) (future pc delay ∷ rest) mode (some promised) n s safe square = tt
   run-square (suc most) (call driver ∷ rest) mode u n s safe square =
       go (storeOps b aside .drive driver s) (driven-square b aside first n s square (driverAt b aside driver)) (λ after. run-square most rest mode u (counted 0 (storeOps b aside .ending driver s) n) after (safe .1))
     where
@@ -127,7 +129,7 @@ module _ (b : Board) (aside : List ℕ) (first : ℕ) (fine : Within (b .code)) 
           → Squared first (runs most rest mode u (counted 0 (storeOps b aside .ending driver s) n) after .tally) (runs most rest mode u (counted 0 (storeOps b aside .ending driver s) n) after .res))
           → Squared first (goOn res (λ after. runs most rest mode u (counted 0 (storeOps b aside .ending driver s) n) after) .tally) (goOn res (λ after. runs most rest mode u (counted 0 (storeOps b aside .ending driver s) n) after) .res)
       go (ok after) settled on = on after settled
-      go (bad fault) settled on = refl
+      go (bad fault) settled on = tt
   run-square (suc most) (release task ∷ rest) mode u n s safe square =
       go (storeOps b aside .begin task s) (released-square b aside first n s square task (safe .0) (has (s .out) task) refl) (λ after. run-square most rest mode u (counted 1 0 n) after (safe .1))
     where
@@ -135,13 +137,13 @@ module _ (b : Board) (aside : List ℕ) (first : ℕ) (fine : Within (b .code)) 
           → ((after : Store) → Square first (counted 1 0 n) after → Squared first (runs most rest mode u (counted 1 0 n) after .tally) (runs most rest mode u (counted 1 0 n) after .res))
           → Squared first (goOn res (λ after. runs most rest mode u (counted 1 0 n) after) .tally) (goOn res (λ after. runs most rest mode u (counted 1 0 n) after) .res)
       go (ok after) settled on = on after settled
-      go (bad fault) settled on = refl
+      go (bad fault) settled on = tt
   run-square (suc most) (iff guard other ∷ rest) mode u n s safe square =
       run-square most (cond (storeOps b aside .test guard s) rest (drop other (b .code))) mode u (step n) s
       (pick-within (storeOps b aside .test guard s) rest (drop other (b .code)) (safe .1) (drop-within other (b .code) fine)) (record { word = square .word; books = square .books })
   run-square (suc most) (jump pc ∷ rest) mode u n s safe square =
       run-square most (drop pc (b .code)) mode u (step n) s (drop-within pc (b .code) fine) (record { word = square .word; books = square .books })
-  run-square (suc most) (return ∷ rest) mode none n s safe square = refl
+  run-square (suc most) (return ∷ rest) mode none n s safe square = tt
   run-square (suc most) (return ∷ rest) mode (some promised) n s safe square = record { word = square .word; books = square .books }
   run-square (suc most) (switch target ∷ rest) mode u n s safe square =
       run-square most (drop (getD (b .begins) target 0) (b .code)) target u (step n) s (drop-within (getD (b .begins) target 0) (b .code) fine) (record { word = square .word; books = square .books })
@@ -161,15 +163,16 @@ kept a after same balanced = record {
 }
 
 came-balanced : (a : Account) (count : ℕ) (tally : Tally) (res : Res (Halt Store)) → Balanced a → Squared (tasksOut (a .state)) tally res
-    → Balanced (counting a (cameTo (a .state) count tally res .state) tally)
+    → let r = cameTo (a .state) count tally res in Balanced (counting a (r .state) (ifObeyed (r .answer) tally))
 came-balanced a count tally (ok halt) balanced square = record { word = square .word; books = omega (arith, balanced .books, square .books) }
-came-balanced a count tally (bad (late task)) balanced uncounted = rw uncounted (kept a _ refl balanced)
-came-balanced a count tally (bad wild) balanced uncounted = rw uncounted (kept a _ refl balanced)
-came-balanced a count tally (bad astray) balanced uncounted = rw uncounted (kept a _ refl balanced)
-came-balanced a count tally (bad clash) balanced uncounted = rw uncounted (kept a _ refl balanced)
+came-balanced a count tally (bad (late task)) balanced square = kept a _ refl balanced
+came-balanced a count tally (bad wild) balanced square = kept a _ refl balanced
+came-balanced a count tally (bad astray) balanced square = kept a _ refl balanced
+came-balanced a count tally (bad clash) balanced square = kept a _ refl balanced
 
 module _ (b : Board) (fine : Within (b .code)) where
-  reacted-balanced : (a : Account) (count : ℕ) (words : List ℕ) → Balanced a → Balanced (counting a (reacted b (a .state) count words .state) (tallyAt b (a .state) words))
+  reacted-balanced : (a : Account) (count : ℕ) (words : List ℕ) → Balanced a
+      → let r = reacted b (a .state) count words in Balanced (counting a (r .state) (ifObeyed (r .answer) (tallyAt b (a .state) words)))
   unfolding reacted reaction
   reacted-balanced a count words balanced =
       let run = reaction b (a .state .aside) (a .state .mode) (a .state .pc) (sensed words (a .state .store)) in
@@ -177,45 +180,51 @@ module _ (b : Board) (fine : Within (b .code)) where
       (run-square b (a .state .aside) (tasksOut (a .state)) fine (length (b .code)) (drop (a .state .pc) (b .code)) (a .state .mode) none noTally (sensed words (a .state .store))
       (drop-within (a .state .pc) (b .code) fine) (record { word = balanced .word; books = refl }))
 
-  tick-balanced : (a : Account) (count : ℕ) (types words : List ℕ) → Balanced a → Balanced (counting a (tick b (a .state) count types words .state) (tickTally b (a .state) count types words))
-  unfolding tick tickTally
+  tick-balanced : (a : Account) (count : ℕ) (types words : List ℕ) → Balanced a
+      → let r = C.tick b (a .state) count types words in Balanced (counting a (r .state) (ifObeyed (r .answer) (tallyAt b (a .state) words)))
+  unfolding C.tick
   tick-balanced a count types words balanced = go (a .state .stopped) (fits (readingTypes b) types words) (judged (elapsed (a .state .clock) count) (a .state .remaining))
     where
-      go : (stopped fit : Bool) (instant : Instant)
-          → Balanced (counting a
-          (cond stopped (record { answer = R.Refused 31; state = a .state }) (cond fit (byInstant b (a .state) count words instant) (record { answer = R.Refused 32; state = a .state })) .state)
-          (cond stopped noTally (cond fit (tallyBy b (a .state) words instant) noTally)))
+      by : Bool → Bool → Instant → Ticked
+      by stopped fit instant = cond stopped (record { answer = R.Refused 31; state = a .state }) (cond fit (byInstant b (a .state) count words instant) (record { answer = R.Refused 32; state = a .state }))
+
+      go : (stopped fit : Bool) (instant : Instant) → Balanced (counting a (by stopped fit instant .state) (ifObeyed (by stopped fit instant .answer) (tallyAt b (a .state) words)))
       go true fit instant = kept a _ refl balanced
       go false true (early left) = kept a _ refl balanced
       go false true due = reacted-balanced a count words balanced
       go false true missed = kept a _ refl balanced
       go false false instant = kept a _ refl balanced
 
-  call-balanced : (a : Account) (one : Call) → Balanced a → Balanced (called b a one)
-  unfolding called
-  call-balanced a (ticks count types words) balanced = tick-balanced a count types words balanced
-  call-balanced a asks balanced = kept a _ (go (nextTask (a .state) .answer) (next-leaves (a .state))) balanced
+  call-balanced : (a : Account) (one : Ask) → Balanced a → Balanced (counting a (asks b one (a .state) .state) (tallyOf b one (a .state)))
+  call-balanced a (tick count types words) balanced = tick-balanced a count types words balanced
+  call-balanced a next balanced = kept a _ (go (nextTask (a .state) .answer) (next-leaves (a .state))) balanced
     where
       go : (answer : Turn) → LeavesNext (a .state) answer (nextTask (a .state) .state) → nextTask (a .state) .state .store .out ≡ a .state .store .out
       go (T.Task task) left = ap (λ (after : State). after .store .out) left
       go T.Nobody left = ap (λ (after : State). after .store .out) left
       go (T.Refused number) left = ap (λ (after : State). after .store .out) left
-  call-balanced a (ends task types words) balanced = kept a _ (go (finish b (a .state) task types words .answer) (finish-leaves b (a .state) task types words)) balanced
+  call-balanced a (finish task types words) balanced = kept a _ (go (C.finish b (a .state) task types words .answer) (finish-leaves b (a .state) task types words)) balanced
     where
-      go : (answer : Finishing) → LeavesFinish (a .state) task words answer (finish b (a .state) task types words .state) → finish b (a .state) task types words .state .store .out ≡ a .state .store .out
+      go : (answer : Finishing) → LeavesFinish (a .state) task words answer (C.finish b (a .state) task types words .state) → C.finish b (a .state) task types words .state .store .out ≡ a .state .store .out
       go F.Taken left = ap (λ (after : State). after .store .out) left
       go (F.Refused number) left = ap (λ (after : State). after .store .out) left
 
-  pub history-balanced : (a : Account) (calls : List Call) → Balanced a → Balanced (history b a calls)
+  history-balanced : (a : Account) (calls : List Ask) → Balanced a → Balanced (history b a calls)
   unfolding history
   history-balanced a [] balanced = balanced
-  history-balanced a (one ∷ calls) balanced = history-balanced (called b a one) calls (call-balanced a one balanced)
+  history-balanced a (one ∷ rest) balanced = history-balanced _ rest (call-balanced a one balanced)
 
   opened-balanced : (count : ℕ) (words : List ℕ) → Balanced (opened b count words)
   unfolding opened countFrom
   opened-balanced count words = reacted-balanced (record { state = fresh b count; releases = 0; terminations = 0 }) count words (record { word = lit< tt; books = refl })
 
   -- Releases so far equal terminations plus tasks out, after a start and every history of calls.
-  pub count-law : (count : ℕ) (words : List ℕ) (calls : List Call)
-      → history b (opened b count words) calls .releases ≡ history b (opened b count words) calls .terminations + tasksOut (history b (opened b count words) calls .state)
+  pub count-law : (count : ℕ) (words : List ℕ) (calls : List Ask)
+      → let after = history b (opened b count words) calls in after .releases ≡ after .terminations + tasksOut (after .state)
   count-law count words calls = history-balanced (opened b count words) calls (opened-balanced count words) .books
+
+-- The machine of an account is the machine behind its calls.
+pub history-behind : (b : Board) (a : Account) (calls : List Ask) → history b a calls .state ≡ behind b calls (a .state)
+unfolding history
+history-behind b a [] = refl
+history-behind b a (one ∷ rest) = history-behind b _ rest

@@ -68,7 +68,7 @@ abbrev pub goOn : {S : Type 0} → Res S → (S → Run S) → Run S
 goOn (ok store) next = next store
 goOn (bad fault) next = fail fault
 
--- a future is obeyed where there is none yet; a return where there is one
+-- a future: obeyed where none is noted yet, else 42
 abbrev pub only : {S : Type 0} → Option Future → Run S → Run S
 only none run = run
 only (some promised) run = fail astray

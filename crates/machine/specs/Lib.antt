@@ -9,9 +9,14 @@ pub mod Leaves
 pub mod ClockLaws
 pub mod HandedLaws
 pub mod NoTrace
+pub mod AsideLaws
+pub mod Obeys
+pub mod Asks
 pub mod Starts
 pub mod Counts
 pub mod CountLaw
 pub mod SoundLaws
 pub mod Answers
+pub mod Numbers
 pub mod Cases
+pub mod CallCases

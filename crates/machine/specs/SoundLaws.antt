@@ -1,7 +1,7 @@
--- What soundness says of a table's tasks and releases: every task that the code releases is one of the table's, of which there are at most 32.
+-- Laws: what soundness says of a table's tasks and releases: every task that the code releases is one of the table's, of which there are at most 32.
 use Prim.Native.Nat.{ℕ, _+_, _≤_}
 use native.Mathlib.Omega.{arith}
-use mathlib.Core.Path.{_≡_, refl}
+use mathlib.Core.Path.{_≡_, refl, sym, _∙_, ap}
 use mathlib.Core.Bool.{true, _&&_}
 use mathlib.Core.List.{List, [], _∷_}
 use lib.ListN.{length}
@@ -21,10 +21,11 @@ use Rattle.file.specs.Records.{sensors, actuators, tasks}
 use Rattle.file.specs.References.{portRoles, goodDriver, goodGuard, goodInstruction, startModes, goodReferences}
 use Rattle.file.specs.Files.{table, versionOf, tableBy, sound}
 use Rattle.machine.specs.Boards.{boardOf}
-use Rattle.machine.specs.Calls.{readingTypes, tasksOut}
+use Rattle.machine.specs.Calls.{State, readingTypes, tasksOut}
 use Rattle.machine.specs.Starts.{start}
-use Rattle.machine.specs.Counts.{Call, history, opened}
-use Rattle.machine.specs.CountLaw.{within, Within, count-law}
+use Rattle.machine.specs.Asks.{Ask, behind}
+use Rattle.machine.specs.Counts.{Account, history, opened}
+use Rattle.machine.specs.CountLaw.{within, Within, count-law, history-behind}
 
 tasks-room : (t : Table) → tableBy (versionOf t) .ok t ≡ true → length (t .tasks) ≤ 32
 unfolding table tableBy versionOf shape viewOk dep depOk tasks count
@@ -58,10 +59,9 @@ sound-within t is-sound =
     let good = and-right (begins && eqb (startModes (t .modes)) 1) _ (and-right rows _ (and-right (tableBy (versionOf t) .ok t) _ is-sound)) in
     all-within t (tasks-room t (and-left _ _ is-sound)) (t .code) good
 
--- Over every history of calls of a machine on a table that the reader can return.
-pub sound-count-law : (t : Table) → sound t ≡ true → (count : ℕ) (words : List ℕ) (calls : List Call)
-    → history (boardOf t) (opened (boardOf t) count words) calls .releases
-    ≡ history (boardOf t) (opened (boardOf t) count words) calls .terminations + tasksOut (history (boardOf t) (opened (boardOf t) count words) calls .state)
+-- Releases so far equal terminations plus tasks out, over every history of calls of a machine on a table that the reader can return.
+pub sound-count-law : (t : Table) → sound t ≡ true → (count : ℕ) (words : List ℕ) (calls : List Ask)
+    → let after = history (boardOf t) (opened (boardOf t) count words) calls in after .releases ≡ after .terminations + tasksOut (after .state)
 sound-count-law t is-sound count words calls = count-law (boardOf t) (unfold boardOf in sound-within t is-sound) count words calls
 
 -- the account opens where a start that is not refused leaves the machine
@@ -69,3 +69,13 @@ pub start-opens : (t : Table) (count : ℕ) (types words : List ℕ) → sound t
     → start t count types words .state ≡ opened (boardOf t) count words .state
 unfolding start opened
 start-opens t count types words is-sound fit = rw (is-sound, fit) refl
+
+-- Releases so far equal terminations plus tasks out, from a start on, behind every list of calls.
+pub started-count-law : (t : Table) (count : ℕ) (types words : List ℕ) → sound t ≡ true → fits (readingTypes (boardOf t)) types words ≡ true → (calls : List Ask)
+    → let account = history (boardOf t) (opened (boardOf t) count words) calls in
+    account .releases ≡ account .terminations + tasksOut (behind (boardOf t) calls (start t count types words .state))
+started-count-law t count types words is-sound fit calls =
+    let b = boardOf t in
+    let from = opened b count words in
+    let there : history b from calls .state ≡ behind b calls (start t count types words .state) = history-behind b from calls ∙ ap (behind b calls) (sym (start-opens t count types words is-sound fit)) in
+    sound-count-law t is-sound count words calls ∙ ap (λ (m : State). history b from calls .terminations + tasksOut m) there

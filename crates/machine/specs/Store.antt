@@ -24,8 +24,9 @@ abbrev pub part : List ℕ → ℕ → ℕ → List ℕ
 part words at zero = []
 part words at (suc n) = getD words at 0 ∷ part words (at + 1) n
 
--- `aside` holds the results of finished tasks: those of task k from 8k on.
+-- `aside` holds the results of finished tasks: those of task k from 8k on. They mean something only while the task's finished bit is set: a termination clears the bit and leaves the words.
 module _ (b : Board) (aside : List ℕ) where
+  -- where a task's ports begin
   abbrev pub lotOf : ℕ → Lot
   lotOf task = getD (b .lots) task noLot
 
@@ -41,6 +42,7 @@ module _ (b : Board) (aside : List ℕ) where
         finished = parted (s .finished) task;
       })
 
+  -- a store with other ports
   abbrev pub withPorts : Store → List ℕ → Store
   withPorts s ports = record { ports = ports; out = s .out; waiting = s .waiting; finished = s .finished }
 
@@ -50,6 +52,7 @@ module _ (b : Board) (aside : List ℕ) where
   driven (releases task sources) s = ok (withPorts s (copyTo (lotOf task .inputs) sources (s .ports)))
   driven (terminates task) s = ended task s (has (s .out) task) (has (s .finished) task)
 
+  -- how many tasks that are out a driver terminates
   abbrev pub endingBy : Driver → Store → ℕ
   endingBy (updates source target) s = 0
   endingBy (releases task sources) s = 0
@@ -60,9 +63,11 @@ module _ (b : Board) (aside : List ℕ) where
   released task s true = bad clash
   released task s false = ok (record { ports = s .ports; out = joined (s .out) task; waiting = joined (s .waiting) task; finished = s .finished })
 
+  -- the driver of a number
   abbrev pub driverAt : ℕ → Driver
   driverAt driver = getD (b .drivers) driver noDriver
 
+  -- the instructions over a store: guards read its ports, drivers and releases change it
   abbrev pub storeOps : Ops Store
   storeOps =
       record {

@@ -8,7 +8,7 @@ use lib.Dec.{eqb, ltb}
 abbrev pub has : ℕ → ℕ → Bool
 has word task = eqb (word / 2 ^ task % 2) 1
 
--- the word with the task, and without it
+-- a word with a task's bit; there is none for task 64 and above
 abbrev pub joined : ℕ → ℕ → ℕ
 joined word task = cond (has word task) word (cond (ltb task 64) (word + 2 ^ task) word)
 

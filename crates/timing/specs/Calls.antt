@@ -6,13 +6,8 @@ use mathlib.Core.List.{List, [], _∷_, map}
 use lib.ListN.{length, getD, set}
 use Rattle.model.specs.Clock.{elapsed, Instant, early, due, missed, judged, fits}
 use Rattle.model.specs.Modules.{Module, Mode, Task, noTask, portStarts}
+pub use Rattle.machine.specs.Asks.{Ask, tick, next, finish}
 use Rattle.timing.specs.Rules.{Standing, idle, ready, running, done, Store, Outcome, well, late, Place, modeAt, nextInstant, sensed, entered, instant}
-
--- What the host asks. Values are handed in as their types and their words.
-pub data Ask : Type 0 where
-  tick : ℕ → List ℕ → List ℕ → Ask
-  next : Ask
-  finish : ℕ → List ℕ → List ℕ → Ask
 
 -- What is answered: idle; a reaction; a refusal's number; fault 40 with the late task; the task handed out, or none; results taken.
 pub data Reply : Type 0 where
@@ -48,13 +43,15 @@ startFrom n [] = n
 startFrom n (m ∷ ms) = cond (m .start) n (startFrom (suc n) ms)
 
 module _ (M : Module) where
+  -- the start mode's number
   abbrev pub startMode : ℕ
   startMode = startFrom 0 (M .modes)
 
-  -- The types that readings must have, and the results of task k.
+  -- the types that readings must have
   abbrev pub readingTypes : List ℕ
   readingTypes = map (λ s. s .type) (M .sensors)
 
+  -- the types that the results of task k must have
   abbrev pub resultTypes : ℕ → List ℕ
   resultTypes k = map (λ o. o .type) (getD (M .tasks) k noTask .outputs)
 
@@ -62,6 +59,7 @@ module _ (M : Module) where
   abbrev pub remains : Place → ℕ
   remains at = nextInstant (modeAt M (at .mode)) (at .time) - at .time
 
+  -- a reply that changes nothing
   abbrev pub stay : View → Reply → Said
   stay v reply = record { reply = reply; view = v }
 
@@ -74,11 +72,12 @@ module _ (M : Module) where
         stopped = v .stopped;
       }
 
-  -- A late task stops the module, all else as before the call.
+  -- what an instant came to: a late task stops the module, all else as before the call
   abbrev pub cameTo : View → ℕ → Outcome Place → Said
   cameTo v count (well at) = record { reply = reacted; view = record { place = at; clock = count; stopped = none } }
   cameTo v count (late task) = record { reply = fell task; view = record { place = v .place; clock = v .clock; stopped = some task } }
 
+  -- time gone by before the next instant
   abbrev pub passed : View → ℕ → ℕ → View
   passed v count gone =
       record {
@@ -93,6 +92,7 @@ module _ (M : Module) where
   ticked v count words due = cameTo v count (instant M (v .place .mode) (nextInstant (modeAt M (v .place .mode)) (v .place .time)) words (v .place .store))
   ticked v count words missed = stay v (refused 33)
 
+  -- next: the task handed out, or none
   abbrev pub handed : View → Option ℕ → Said
   handed v none = stay v (given none)
   handed v (some task) = record { reply = given (some task); view = stands v (set (v .place .store .tasks) task running) }
@@ -114,6 +114,7 @@ module _ (M : Module) where
   answer next v none = handed v (lowest 0 (v .place .store .tasks))
   answer (finish task types words) v none = finished v task types words (getD (v .place .store .tasks) task idle)
 
+  -- a call of the module as it stands
   unfoldable pub ask : Ask → View → Said
   ask a v = answer a v (v .stopped)
 
@@ -125,11 +126,12 @@ module _ (M : Module) where
   unfoldable pub started : ℕ → List ℕ → View
   started count words = record { place = entered M startMode 0 (sensed M words beginning); clock = count; stopped = none }
 
-  -- A history of calls: all that is answered, and where it comes to.
+  -- a history of calls: all that is answered
   abbrev pub replies : List Ask → View → List Reply
   replies [] v = []
   replies (a ∷ rest) v = ask a v .reply ∷ replies rest (ask a v .view)
 
+  -- where a history comes to
   abbrev pub comes : List Ask → View → View
   comes [] v = v
   comes (a ∷ rest) v = comes rest (ask a v .view)

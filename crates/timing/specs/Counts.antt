@@ -1,4 +1,4 @@
--- The count law by the rules: releases so far equal terminations of tasks that were out plus tasks out.
+-- Laws: the count law by the rules: releases so far equal terminations of tasks that were out plus tasks out.
 use Prim.Native.Nat.{ℕ, zero, suc, _+_, _<_}
 use native.Mathlib.Omega.{arith}
 use mathlib.Core.Path.{_≡_, refl, sym, _∙_, ap}
@@ -13,7 +13,7 @@ use Rattle.timing.specs.SlotLaws.{Each, each-keep}
 use Rattle.timing.specs.Rules.{Standing, idle, ready, running, done, Store, well, Place, modeAt, passes, sensed, terminations, begun, releases, releasedBy}
 use Rattle.timing.specs.Accepted.{Accepted, CallFits}
 use Rattle.timing.specs.Calls.{Ask, Reply, waits, reacted, refused, fell, given, taken, View, beginning, started, ask, comes}
-use Rattle.timing.specs.Standings.{isOut, howMany, howManyOut, split, beginning-idle}
+use Rattle.timing.specs.Standings.{isOut, howManyOut, split, beginning-idle}
 use Rattle.timing.specs.Ticks.{nextTime, Means, each-means}
 use Rattle.timing.specs.Lates.{endingNext}
 use Rattle.timing.specs.Released.{beginningThere, updatedAt, start-came}
@@ -39,31 +39,27 @@ ifReacted (given task) n = 0
 ifReacted taken n = 0
 
 module _ (M : Module) where
-  -- Releases, and terminations of tasks that were out, over a history.
+  -- releases over a history
   abbrev pub releasesIn : List Ask → View → ℕ
   releasesIn [] v = 0
   releasesIn (a ∷ rest) v = ifReacted (ask M a v .reply) (length (ask M a v .view .place .released)) + releasesIn rest (ask M a v .view)
 
+  -- terminations of tasks that were out, over a history
   abbrev pub endingsIn : List Ask → View → ℕ
   endingsIn [] v = 0
   endingsIn (a ∷ rest) v = ifReacted (ask M a v .reply) (endedOut (endingNext M v) (v .place .store .tasks)) + endingsIn rest (ask M a v .view)
 
 -- ---- one standing changes
 
-pub one-changes : (f : Standing → ℕ) (l : List Standing) (t : ℕ) (x y : Standing) → getD l t idle ≡ x → isOut x ≡ 1 → howMany f (set l t y) + f x ≡ howMany f l + f y
-one-changes f [] t x y e o = let h : 0 ≡ isOut x = ap isOut e in absurd (omega arith)
-one-changes f (a ∷ l) zero x y e o = let h : f a ≡ f x = ap f e in omega arith
-one-changes f (a ∷ l) (suc t) x y e o = let h = one-changes f l t x y e o in omega arith
+one-changes : (l : List Standing) (t : ℕ) (x y : Standing) → getD l t idle ≡ x → isOut x ≡ 1 → howManyOut (set l t y) + 1 ≡ howManyOut l + isOut y
+one-changes [] t x y e o = let h : 0 ≡ isOut x = ap isOut e in absurd (omega arith)
+one-changes (a ∷ l) zero x y e o = let h : isOut a ≡ isOut x = ap isOut e in omega arith
+one-changes (a ∷ l) (suc t) x y e o = let h = one-changes l t x y e o in omega arith
 
--- what is counted of standings counts a task from its release on
-pub record FromRelease (f : Standing → ℕ) : Type 0 where
-  pub not-idle : f idle ≡ 0
-  pub if-ready : f ready ≡ 1
-
-pub one-begins : (f : Standing → ℕ) → FromRelease f → (l : List Standing) (t : ℕ) → t < length l → getD l t idle ≡ idle → howMany f (set l t ready) ≡ howMany f l + 1
-one-begins f r [] t lt e = absurd (omega arith)
-one-begins f r (a ∷ l) zero lt e = let h : f a ≡ f idle = ap f e in let i = r .not-idle in let k = r .if-ready in omega arith
-one-begins f r (a ∷ l) (suc t) lt e = let h = one-begins f r l t (omega arith) e in omega arith
+one-begins : (l : List Standing) (t : ℕ) → t < length l → getD l t idle ≡ idle → howManyOut (set l t ready) ≡ howManyOut l + 1
+one-begins [] t lt e = absurd (omega arith)
+one-begins (a ∷ l) zero lt e = let h : isOut a ≡ 0 = ap isOut e in omega arith
+one-begins (a ∷ l) (suc t) lt e = let h = one-begins l t (omega arith) e in omega arith
 
 module _ (M : Module) where
   -- ---- terminations, and releases
@@ -81,7 +77,7 @@ module _ (M : Module) where
       go w (handed-over results e h) ih =
           let t = a .what .task in
           let ih1 : (howManyOut (v .tasks) + endedOut acts (set (s .tasks) (a .what .task) idle) ≡ howManyOut (set (s .tasks) (a .what .task) idle)) × (length (v .tasks) ≡ length (set (s .tasks) (a .what .task) idle)) = rw (← h) at ih in
-          let c = one-changes isOut (s .tasks) t (done results) idle e refl in
+          let c = one-changes (s .tasks) t (done results) idle e refl in
           let o : isOut (getD (s .tasks) (a .what .task) idle) ≡ 1 = ap isOut e in
           let x = ih1 .0 in
           (omega arith, ih1 .1 ∙ length-set (s .tasks) t idle)
@@ -95,31 +91,27 @@ module _ (M : Module) where
       go false = refl
 
   -- each release of a task that is not out counts one
-  module _ (f : Standing → ℕ) (r : FromRelease f) where
-    releases-each : (acts : List (Act Call)) (s : Store) → Free acts s → Each (λ a. a .what .task < length (s .tasks)) acts → howMany f (releases M acts s .tasks) ≡ howMany f (s .tasks) + length (releasedBy M acts s)
-    releases-each [] s g w = omega arith
-    releases-each (a ∷ acts) s g w =
-        let on = releases-each acts (begun M (a .what) s) (g .0 .1, set-free acts s _ (a .what .task) ready (g .0 .0) (g .1 .1)) (longer acts (w .1)) in
-        let off = releases-each acts s (g .0 .1, g .1 .1) (w .1) in
-        go (passes M (a .guard) (s .ports)) on off
-      where
-        longer : (l : List (Act Call)) → Each (λ b. b .what .task < length (s .tasks)) l → Each (λ b. b .what .task < length (begun M (a .what) s .tasks)) l
-        longer [] x = tt
-        longer (b ∷ l) x = (rw length-set (x .0), longer l (x .1))
+  releases-each : (acts : List (Act Call)) (s : Store) → Free acts s → Each (λ a. a .what .task < length (s .tasks)) acts → howManyOut (releases M acts s .tasks) ≡ howManyOut (s .tasks) + length (releasedBy M acts s)
+  releases-each [] s g w = omega arith
+  releases-each (a ∷ acts) s g w =
+      let on = releases-each acts (begun M (a .what) s) (g .0 .1, set-free acts s _ (a .what .task) ready (g .0 .0) (g .1 .1)) (longer acts (w .1)) in
+      let off = releases-each acts s (g .0 .1, g .1 .1) (w .1) in
+      go (passes M (a .guard) (s .ports)) on off
+    where
+      longer : (l : List (Act Call)) → Each (λ b. b .what .task < length (s .tasks)) l → Each (λ b. b .what .task < length (begun M (a .what) s .tasks)) l
+      longer [] x = tt
+      longer (b ∷ l) x = (rw length-set (x .0), longer l (x .1))
 
-        go : (y : Bool) → howMany f (releases M acts (begun M (a .what) s) .tasks) ≡ howMany f (begun M (a .what) s .tasks) + length (releasedBy M acts (begun M (a .what) s))
-            → howMany f (releases M acts s .tasks) ≡ howMany f (s .tasks) + length (releasedBy M acts s)
-            → howMany f (releases M acts (cond y (begun M (a .what) s) s) .tasks)
-            ≡ howMany f (s .tasks) + length (cond y (a .what .task ∷ releasedBy M acts (cond y (begun M (a .what) s) s)) (releasedBy M acts (cond y (begun M (a .what) s) s)))
-        go true on off = let b = one-begins f r (s .tasks) (a .what .task) (w .0) (g .1 .0) in omega arith
-        go false on off = off
+      go : (y : Bool) → howManyOut (releases M acts (begun M (a .what) s) .tasks) ≡ howManyOut (begun M (a .what) s .tasks) + length (releasedBy M acts (begun M (a .what) s))
+          → howManyOut (releases M acts s .tasks) ≡ howManyOut (s .tasks) + length (releasedBy M acts s)
+          → howManyOut (releases M acts (cond y (begun M (a .what) s) s) .tasks)
+          ≡ howManyOut (s .tasks) + length (cond y (a .what .task ∷ releasedBy M acts (cond y (begun M (a .what) s) s)) (releasedBy M acts (cond y (begun M (a .what) s) s)))
+      go true on off = let b = one-begins (s .tasks) (a .what .task) (w .0) (g .1 .0) in omega arith
+      go false on off = off
 
-  pub releases-count : (f : Standing → ℕ) → FromRelease f → (acts : List (Act Call)) (s : Store) → Free acts s → Each (λ a. a .what .task < length (s .tasks)) acts
-      → (howMany f (releases M acts s .tasks) ≡ howMany f (s .tasks) + length (releasedBy M acts s)) × (length (releases M acts s .tasks) ≡ length (s .tasks))
-  releases-count f r acts s g w = (releases-each f r acts s g w, releases-many acts s)
-
-pub out-counts : FromRelease isOut
-out-counts = record { not-idle = refl; if-ready = refl }
+  releases-count : (acts : List (Act Call)) (s : Store) → Free acts s → Each (λ a. a .what .task < length (s .tasks)) acts
+      → (howManyOut (releases M acts s .tasks) ≡ howManyOut (s .tasks) + length (releasedBy M acts s)) × (length (releases M acts s .tasks) ≡ length (s .tasks))
+  releases-count acts s g w = (releases-each acts s g w, releases-many acts s)
 
 module _ (M : Module) (W : Accepted M) where
   abbrev tasks : View → List Standing
@@ -148,7 +140,7 @@ module _ (M : Module) (W : Accepted M) where
       let ended = c .ended in
       let t = terms-count M (endingNext M v) (sensed M (m .words) (v .place .store)) (c .ended) (c .terms) in
       let known : Each (λ a. a .what .task < length (updatedAt M (v .place .mode) (nextTime M v) (c .ended) .tasks)) (beginningThere M w) = let e = t .1 in rw e (rw l (begun-known w (n .held .known))) in
-      let r = releases-count M isOut out-counts (beginningThere M w) (updatedAt M (v .place .mode) (nextTime M v) (c .ended)) (n .free) known in
+      let r = releases-count M (beginningThere M w) (updatedAt M (v .place .mode) (nextTime M v) (c .ended)) (n .free) known in
       let x = t .0 in
       let y = r .0 in
       let outs = ap (λ (v : Store). howManyOut (v .tasks)) (c .store) in
@@ -157,8 +149,8 @@ module _ (M : Module) (W : Accepted M) where
   fair-means a v (refused number) u m H l = rw m (refl, refl)
   fair-means a v (fell task) u m H l = rw (m .shows) (refl, refl)
   fair-means a v (given none) u m H l = rw m (refl, refl)
-  fair-means a v (given (some task)) u m H l = rw (m .shows) (let c = one-changes isOut (tasks v) task ready running (m .was) refl in omega arith, length-set (tasks v) task running)
-  fair-means a v taken u m H l = rw (m .shows) (let c = one-changes isOut (tasks v) (m .task) running (done (m .words)) (m .was) refl in omega arith, length-set (tasks v) (m .task) (done (m .words)))
+  fair-means a v (given (some task)) u m H l = rw (m .shows) (let c = one-changes (tasks v) task ready running (m .was) refl in omega arith, length-set (tasks v) task running)
+  fair-means a v taken u m H l = rw (m .shows) (let c = one-changes (tasks v) (m .task) running (done (m .words)) (m .was) refl in omega arith, length-set (tasks v) (m .task) (done (m .words)))
 
   along : (asks : List Ask) (v : View) → Held M (v .place) → length (tasks v) ≡ length (M .tasks) → releasesIn M asks v + howManyOut (tasks v) ≡ endingsIn M asks v + howManyOut (tasks (comes M asks v))
   unfolding Fair
@@ -179,7 +171,7 @@ module _ (M : Module) (W : Accepted M) where
       let (free, held) = start-held M W count words in
       let (store, released) = start-came M count words in
       let all : length (beginning M .tasks) ≡ length (M .tasks) = mapped (λ (task : Task). idle) (M .tasks) in
-      let (outs, long) = releases-count M isOut out-counts (beginningThere M (v .place)) (sensed M words (beginning M)) free (rw all (begun-known (v .place) (held .known))) in
+      let (outs, long) = releases-count M (beginningThere M (v .place)) (sensed M words (beginning M)) free (rw all (begun-known (v .place) (held .known))) in
       (rw store long) ∙ all
 
   none-out : (l : List Standing) → ((j : ℕ) → getD l j idle ≡ idle) → howManyOut l ≡ 0
@@ -195,7 +187,7 @@ module _ (M : Module) (W : Accepted M) where
       let (free, held) = start-held M W count words in
       let (store, released) = start-came M count words in
       let all : length (beginning M .tasks) ≡ length (M .tasks) = mapped (λ (task : Task). idle) (M .tasks) in
-      let (outs, long) = releases-count M isOut out-counts (beginningThere M (v .place)) s free (rw all (begun-known (v .place) (held .known))) in
+      let (outs, long) = releases-count M (beginningThere M (v .place)) s free (rw all (begun-known (v .place) (held .known))) in
       let e : howManyOut (tasks v) ≡ howManyOut (beginning M .tasks) + length (v .place .released) = rw (store, released) outs in
       let l = start-many count words in
       let z = none-out (beginning M .tasks) (beginning-idle M) in

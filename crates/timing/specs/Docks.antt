@@ -16,19 +16,14 @@ use Rattle.machine.specs.declared.Turn.{Turn}
 use Rattle.machine.specs.declared.Turn.the-variants as T
 use Rattle.machine.specs.declared.Finishing.{Finishing}
 use Rattle.machine.specs.declared.Finishing.the-variants as F
+pub use Rattle.machine.specs.Asks.{Answer, ticking, turning, finishing}
 use Rattle.machine.specs.Instructions as E
 use Rattle.machine.specs.Instructions.{Res, ok, bad, Halt, Tally}
 use Rattle.timing.specs.Reacts.{reacting}
 
 -- ---- answers, and what they are in the rules' words
 
--- what a call answers
-pub data Answer : Type 0 where
-  ticking : Reaction → Answer
-  turning : Turn → Answer
-  finishing : Finishing → Answer
-
--- A fault other than 40 is no reply of the rules.
+-- an answer as a reply of the rules; a fault other than 40 is none
 abbrev pub replyTo : Answer → Option Reply
 replyTo (ticking (Obeyed instructions)) = some reacted
 replyTo (ticking Idle) = some waits
@@ -48,7 +43,7 @@ answerTo E.wild = Fault 41
 answerTo E.astray = Fault 42
 answerTo E.clash = Fault 43
 
--- what a stopped machine answers
+-- a call's refusal with a number
 abbrev pub refusal : Ask → ℕ → Answer
 refusal (tick count types words) number = ticking (Refused number)
 refusal next number = turning (T.Refused number)
@@ -93,22 +88,25 @@ withTasks d tasks =
     record { clock = d .clock; remaining = d .remaining; mode = d .mode; pc = d .pc; store = record { ports = d .store .ports; tasks = tasks }; stopped = d .stopped }
 
 module _ (M : Module) where
-  -- Sensors take the host's reading, then one reaction.
+  -- sensors take the host's readings, then one reaction
   abbrev pub reactedAt : Dock → ℕ → List ℕ → Told
   reactedAt d count words =
       let run = reacting M (d .mode) (d .pc) (sensed M words (d .store)) in
       cameTo d count (run .tally) (run .res)
 
+  -- a tick, by the clock
   abbrev pub byInstant : Dock → ℕ → List ℕ → Instant → Told
   byInstant d count words (early left) =
       record { answer = ticking Idle; dock = record { clock = count; remaining = left; mode = d .mode; pc = d .pc; store = d .store; stopped = none } }
   byInstant d count words due = reactedAt d count words
   byInstant d count words missed = tells d (ticking (Refused 33))
 
+  -- next: the task handed out, or none
   abbrev pub handedOut : Dock → Option ℕ → Told
   handedOut d none = tells d (turning T.Nobody)
   handedOut d (some task) = record { answer = turning (T.Task task); dock = withTasks d (set (d .store .tasks) task running) }
 
+  -- finish, by the task's standing
   abbrev pub finishedBy : Dock → ℕ → List ℕ → List ℕ → Standing → Told
   finishedBy d task types words idle = tells d (finishing (F.Refused 34))
   finishedBy d task types words ready = tells d (finishing (F.Refused 34))
@@ -116,6 +114,7 @@ module _ (M : Module) where
       cond (fits (resultTypes M task) types words) (record { answer = finishing F.Taken; dock = withTasks d (set (d .store .tasks) task (done words)) }) (tells d (finishing (F.Refused 35)))
   finishedBy d task types words (done results) = tells d (finishing (F.Refused 34))
 
+  -- a call, by whether the dock is stopped
   abbrev pub answered : Ask → Dock → Option E.Fault → Told
   answered a d (some fault) = tells d (refusal a 31)
   answered (tick count types words) d none =
@@ -124,21 +123,24 @@ module _ (M : Module) where
   answered next d none = handedOut d (lowest 0 (d .store .tasks))
   answered (finish task types words) d none = finishedBy d task types words (getD (d .store .tasks) task idle)
 
+  -- a call of the dock as it stands
   unfoldable pub asked : Ask → Dock → Told
   asked a d = answered a d (d .stopped)
 
-  -- Beginning values, the start mode, no task out, the count given and 0 remaining; then one reaction.
+  -- beginning values, the start mode, no task out, the count given and 0 remaining
   abbrev pub newDock : ℕ → Dock
   newDock count = record { clock = count; remaining = 0; mode = startMode M; pc = getD (beginsOf M) (startMode M) 0; store = beginning M; stopped = none }
 
+  -- a start: the new dock and one reaction
   unfoldable pub startedDock : ℕ → List ℕ → Told
   startedDock count words = reactedAt (newDock count) count words
 
-  -- A history of calls: all that is answered, and the dock that it leaves.
+  -- a history of calls: all that is answered
   abbrev pub answers : List Ask → Dock → List Answer
   answers [] d = []
   answers (a ∷ rest) d = asked a d .answer ∷ answers rest (asked a d .dock)
 
+  -- the dock that a history leaves
   abbrev pub leaves : List Ask → Dock → Dock
   leaves [] d = d
   leaves (a ∷ rest) d = leaves rest (asked a d .dock)

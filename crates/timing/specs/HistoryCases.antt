@@ -39,12 +39,13 @@ twoTasks =
       } ∷ [];
     }
 
--- readings 7 and 8; task t released at due tick i gives 2 i + t
+-- instant n reads 6 + n, the start 6
 readings : ℕ → List ℕ
-readings i = (i + 7) ∷ []
+readings n = (n + 6) ∷ []
 
+-- a task that was released at instant n gives 2 n + its number
 results : ℕ → ℕ → List ℕ
-results i t = (i + i + t) ∷ []
+results n task = (n + n + task) ∷ []
 
 abbrev ticked : ℕ → ℕ → Ask
 ticked count word = tick count (int ∷ []) (word ∷ [])

@@ -35,8 +35,5 @@ pub mod Reacts
 pub mod Docks
 pub mod Histories
 pub mod Counts
-pub mod Tallies
-pub mod ReactionCounts
-pub mod DockCounts
 pub mod HistoryCases
 pub mod Cases

@@ -1,4 +1,5 @@
 -- Histories that keep to the same readings and results: what is said of them, whatever the order of handing out and finishing.
+-- Instants are numbered: instant 0 is the start, instant n the n-th due tick that is served behind it.
 use Prim.Native.Nat.{ℕ, suc}
 use mathlib.Core.Path.{_≡_}
 use mathlib.Core.Bool.{Bool, false, cond, _||_}
@@ -14,20 +15,20 @@ abbrev pub among : ℕ → List ℕ → Bool
 among j [] = false
 among j (t ∷ ts) = eqb j t || among j ts
 
--- The due tick at which each task was last released: those of `released` at tick i, the others as before.
+-- The instant at which each task was last released: instant n for those released there, the others as before.
 abbrev pub stamped : ℕ → List ℕ → (ℕ → ℕ) → ℕ → ℕ
-stamped i released since j = cond (among j released) i (since j)
+stamped n released since task = cond (among task released) n (since task)
 
--- since when a task is out
+-- the same behind a call, where the last instant was `last`: a reaction is the next instant
 abbrev pub stampedBy : Reply → ℕ → List ℕ → (ℕ → ℕ) → ℕ → ℕ
-stampedBy waits i released since = since
-stampedBy reacted i released since = stamped (suc i) released since
-stampedBy (refused number) i released since = since
-stampedBy (fell task) i released since = since
-stampedBy (given task) i released since = since
-stampedBy taken i released since = since
+stampedBy waits last released since = since
+stampedBy reacted last released since = stamped (suc last) released since
+stampedBy (refused number) last released since = since
+stampedBy (fell task) last released since = since
+stampedBy (given task) last released since = since
+stampedBy taken last released since = since
 
--- One more due tick is served, if the reply says so.
+-- one due tick more, if the reply says so
 abbrev pub served : Reply → ℕ → ℕ
 served waits n = n
 served reacted n = suc n
@@ -43,11 +44,11 @@ pub record Shown : Type 0 where
   pub out : List ℕ
   pub released : List ℕ
 
--- what is shown
+-- what is shown at a place
 abbrev pub showing : Place → Shown
 showing at = record { mode = at .mode; ports = at .store .ports; out = whichOut (at .store .tasks); released = at .released }
 
--- what was shown so far
+-- what is shown behind a call, before what later calls show: a reaction shows, another call does not
 abbrev pub logged : Reply → Shown → List Shown → List Shown
 logged waits now log = log
 logged reacted now log = now ∷ log
@@ -57,44 +58,49 @@ logged (given task) now log = log
 logged taken now log = log
 
 module _ (M : Module) where
-  -- How many due ticks a history served, and what was shown after each.
+  -- how many due ticks a history served
   abbrev pub dues : List Ask → View → ℕ
   dues [] v = 0
   dues (a ∷ rest) v = served (ask M a v .reply) (dues rest (ask M a v .view))
 
+  -- what was shown after each of them
   abbrev pub dueLog : List Ask → View → List Shown
   dueLog [] v = []
   dueLog (a ∷ rest) v = logged (ask M a v .reply) (showing (ask M a v .view .place)) (dueLog rest (ask M a v .view))
 
-  -- Due tick i reads `readings i`; task t, released at due tick i (0: the start), is finished with `results i t`; no tick faults.
+  -- Instant n reads `readings n`; a task that was released at instant n is finished with `results n task`; no tick faults.
   module _ (readings : ℕ → List ℕ) (results : ℕ → ℕ → List ℕ) where
+    -- the reaction to this call at instant n reads what it should
     abbrev pub Reads : Ask → ℕ → Type 0
-    Reads (tick count types words) i = words ≡ readings i
-    Reads next i = Unit {0}
-    Reads (finish task types words) i = Unit {0}
+    Reads (tick count types words) n = words ≡ readings n
+    Reads next n = Unit {0}
+    Reads (finish task types words) n = Unit {0}
 
+    -- the results of this call are those of the instant that released the task
     abbrev pub Gives : Ask → (ℕ → ℕ) → Type 0
     Gives (tick count types words) since = Unit {0}
     Gives next since = Unit {0}
     Gives (finish task types words) since = words ≡ results (since task) task
 
+    -- a call behind instant `last`, by its reply
     abbrev pub KeepsAt : Ask → Reply → ℕ → (ℕ → ℕ) → Type 0
-    KeepsAt a waits i since = Unit {0}
-    KeepsAt a reacted i since = Reads a i
-    KeepsAt a (refused number) i since = Unit {0}
-    KeepsAt a (fell task) i since = ⊥
-    KeepsAt a (given task) i since = Unit {0}
-    KeepsAt a taken i since = Gives a since
+    KeepsAt a waits last since = Unit {0}
+    KeepsAt a reacted last since = Reads a (suc last)
+    KeepsAt a (refused number) last since = Unit {0}
+    KeepsAt a (fell task) last since = ⊥
+    KeepsAt a (given task) last since = Unit {0}
+    KeepsAt a taken last since = Gives a since
 
+    -- a history behind instant `last`, the tasks released last at the instants `since`
     abbrev pub Keeps : List Ask → View → ℕ → (ℕ → ℕ) → Type 0
-    Keeps [] v i since = Unit {0}
-    Keeps (a ∷ rest) v i since =
-        KeepsAt a (ask M a v .reply) i since
-        × Keeps rest (ask M a v .view) (served (ask M a v .reply) i) (stampedBy (ask M a v .reply) i (ask M a v .view .place .released) since)
+    Keeps [] v last since = Unit {0}
+    Keeps (a ∷ rest) v last since =
+        KeepsAt a (ask M a v .reply) last since
+        × Keeps rest (ask M a v .view) (served (ask M a v .reply) last) (stampedBy (ask M a v .reply) last (ask M a v .view .place .released) since)
 
   -- Two histories from one view that show the same after each due tick, and where they come to.
-  pub record SameRun (v : View) (l n : List Ask) : Type 0 where
-    pub same-mode : comes M l v .place .mode ≡ comes M n v .place .mode
-    pub same-ports : comes M l v .place .store .ports ≡ comes M n v .place .store .ports
-    pub same-out : whichOut (comes M l v .place .store .tasks) ≡ whichOut (comes M n v .place .store .tasks)
-    pub same-dues : dueLog l v ≡ dueLog n v
+  pub record SameRun (v : View) (first other : List Ask) : Type 0 where
+    pub same-mode : comes M first v .place .mode ≡ comes M other v .place .mode
+    pub same-ports : comes M first v .place .store .ports ≡ comes M other v .place .store .ports
+    pub same-out : whichOut (comes M first v .place .store .tasks) ≡ whichOut (comes M other v .place .store .tasks)
+    pub same-dues : dueLog first v ≡ dueLog other v
