@@ -8,9 +8,10 @@ pub mod Asides
 pub mod Docked
 pub mod Faithful
 pub mod Beside
+pub mod Sources
 pub mod Promises
 pub mod PortsKept
 pub mod LaterOnly
 pub mod ReleasesKept
+pub mod CountKept
 pub mod OrderKept
-pub mod FromText

@@ -18,7 +18,7 @@ use Rattle.timing.specs.Accepted.{Accepted}
 use Rattle.timing.specs.Ticks.{nextTime}
 use Rattle.timing.specs.Lates.{endingNext}
 use Rattle.timing.specs.Orders.{among}
-use Rattle.timing.specs.Changes.{tasksOf, targetsOf}
+use Rattle.timing.specs.Changes.{tasksOf}
 use Rattle.timing.specs.PortLaws.{SensorPort, ActuatorPort, InputPort, outputCount}
 use Rattle.timing.specs.PortsAfter.{Aimed}
 use Rattle.timing.specs.NothingEarly as N
@@ -38,6 +38,7 @@ use Rattle.bridge.specs.Boards.{board}
 use Rattle.bridge.specs.Docked.{Asked, asks, dockOf}
 use Rattle.bridge.specs.Faithful.{Started}
 use Rattle.bridge.specs.Beside.{Beside, one-call, beside}
+use Rattle.bridge.specs.Sources.{Sourced, Set, actuator-updated}
 use Rattle.bridge.specs.Promises.{wordIn, standingIn, machineAt, viewAt, ports-same, tasks-same}
 
 -- ---- between due ticks
@@ -179,17 +180,26 @@ module _ (M : Module) (W : Accepted M) (A : Aimed M) (count : ℕ) (types₀ wor
             holds = after-same (outputsOf M task + n) ∙ h .holds;
           })
 
-  -- An actuator changes only at an instant of one of its updates.
-  pub record Set (i : ℕ) : Type 0 where
+  -- An actuator changes only at an instant of one of its updates, to the word of that update's source.
+  pub record Updated (i : ℕ) : Type 0 where
     pub reacts : replyTo (asks M a now .answer) ≡ some reacted
-    pub updates : among i (targetsOf (closing (modeAt M (rules .place .mode) .period) (nextTime M rules) (modeAt M (rules .place .mode) .updates))) ≡ true
+    pub by : Set M (closing (modeAt M (rules .place .mode) .period) (nextTime M rules) (modeAt M (rules .place .mode) .updates)) (dockOf M machineThen .store .ports) i
 
-  pub actuator-kept : (i : ℕ) → ActuatorPort M i → (wordAfter i ≡ wordBefore i) ⊎ Set i
-  actuator-kept i p = go (N.actuator-changes M W A rules (fit-history M count words₀ before) a i p)
+  pub actuator-kept : Sourced M → (i : ℕ) → ActuatorPort M i → (wordAfter i ≡ wordBefore i) ⊎ Updated i
+  actuator-kept R i p = go (N.actuator-changes M W A rules (fit-history M count words₀ before) a i p)
     where
-      go : (getD (ask M a rules .view .place .store .ports) i 0 ≡ getD (rules .place .store .ports) i 0) ⊎ N.Updated M W A rules (fit-history M count words₀ before) a i → (wordAfter i ≡ wordBefore i) ⊎ Set i
+      on : (r : ask M a rules .reply ≡ reacted) → (getD (ask M a rules .view .place .store .ports) i 0 ≡ getD (rules .place .store .ports) i 0)
+          ⊎ Set M (closing (modeAt M (rules .place .mode) .period) (nextTime M rules) (modeAt M (rules .place .mode) .updates)) (ask M a rules .view .place .store .ports) i → (wordAfter i ≡ wordBefore i) ⊎ Updated i
+      on r (inl e) = inl (still i e)
+      on r (inr u) =
+          inr (record {
+            reacts = reacts-so r;
+            by = subst (λ (l : List ℕ). Set M (closing (modeAt M (rules .place .mode) .period) (nextTime M rules) (modeAt M (rules .place .mode) .updates)) l i) (sym (ports-same M W machineThen (ask M a rules .view) then)) u;
+          })
+
+      go : (getD (ask M a rules .view .place .store .ports) i 0 ≡ getD (rules .place .store .ports) i 0) ⊎ N.Updated M W A rules (fit-history M count words₀ before) a i → (wordAfter i ≡ wordBefore i) ⊎ Updated i
       go (inl e) = inl (still i e)
-      go (inr h) = inr (record { reacts = reacts-so (h .reacts); updates = h .ends })
+      go (inr h) = on (h .reacts) (actuator-updated M W A R rules (fit-history M count words₀ before) a (h .reacts) i p)
 
   -- Inputs change only at a release of their task.
   pub record Supplied (task : ℕ) : Type 0 where

@@ -1,0 +1,15 @@
+pub mod Uses
+pub mod Terms
+pub mod Calling
+pub mod Begins
+pub mod Filing
+pub mod Joins
+pub mod Owed
+pub mod Firsts
+pub mod Launches
+pub mod Timing
+pub mod Changing
+pub mod Counting
+pub mod Ordering
+pub mod Demands
+pub mod Bench8
