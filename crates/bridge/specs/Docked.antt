@@ -25,6 +25,8 @@ use Rattle.machine.specs.Boards.{Board, asideRoom}
 use Rattle.machine.specs.Instructions as E
 use Rattle.machine.specs.Instructions.{Res, ok, bad, Halt, Run, Tally, noTally, exec}
 use Rattle.machine.specs.Store.{Store, reaction, storeOps}
+use Rattle.machine.specs.Asks as A
+pub use Rattle.machine.specs.Asks.{Asked}
 use Rattle.machine.specs.Calls as K
 use Rattle.machine.specs.Calls.{State, Ticked, Handed, Finished, stoppedBy, faulted, cameTo, sensed, reacted, readingTypes, resultTypes, idled, byInstant, tick, handedOut, nextTask, withWords, atWork, finish}
 use Rattle.timing.specs.Stands.{standOps}
@@ -45,16 +47,10 @@ abbrev pub stopBy : Bool → ℕ → ℕ → Option E.Fault
 stopBy false number task = none
 stopBy true number task = some (faultBy number task)
 
--- what a call answers, and the machine behind it
-pub record Asked : Type 0 where
-  pub answer : Answer
-  pub state : State
-
 module _ (M : Module) where
+  -- a call of a machine on the module's board
   abbrev pub asks : Ask → State → Asked
-  asks (C.tick count types words) m = record { answer = ticking (tick (board M) m count types words .answer); state = tick (board M) m count types words .state }
-  asks C.next m = record { answer = turning (nextTask m .answer); state = nextTask m .state }
-  asks (C.finish task types words) m = record { answer = finishing (finish (board M) m task types words .answer); state = finish (board M) m task types words .state }
+  asks a m = A.asks (board M) a m
 
   -- a machine seen as a dock
   abbrev pub dockOf : State → Dock

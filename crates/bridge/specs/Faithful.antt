@@ -19,6 +19,7 @@ use Rattle.timing.specs.Accepted.{Accepted, ports}
 use Rattle.machine.specs.declared.Reaction.{Reaction}
 use Rattle.machine.specs.declared.Reaction.the-variants.{Obeyed, Idle, Refused, Late, Fault}
 use Rattle.machine.specs.Words.{has}
+use Rattle.machine.specs.Asks as A
 use Rattle.machine.specs.WordLaws.{bit, bit-above}
 use Rattle.machine.specs.Boards.{Board, boardOf, boardRoom, asideRoom}
 use Rattle.machine.specs.Instructions as E
@@ -40,12 +41,10 @@ use Rattle.bridge.specs.Docked.{Asked, asks, dockOf, Held, Agrees, react
 module _ (M : Module) where
   -- all that is answered, and the machine that is left
   abbrev pub machineAnswers : List Ask → State → List Answer
-  machineAnswers [] m = []
-  machineAnswers (a ∷ rest) m = asks M a m .answer ∷ machineAnswers rest (asks M a m .state)
+  machineAnswers rest m = A.answers (board M) rest m
 
   abbrev pub machineLeaves : List Ask → State → State
-  machineLeaves [] m = m
-  machineLeaves (a ∷ rest) m = machineLeaves rest (asks M a m .state)
+  machineLeaves rest m = A.behind (board M) rest m
 
   pub record Along (rest : List Ask) (m : State) (d : Dock) : Type 0 where
     pub same-answers : machineAnswers rest m ≡ answers M rest d

@@ -8,7 +8,7 @@ use Rattle.model.specs.Clock.{fits}
 use Rattle.file.specs.Files.{Answer, read, refused, decode}
 use Rattle.file.specs.Returned.{returned-sound}
 use Rattle.file.specs.declared.ReadAnswer.the-variants.{Read}
-use Rattle.timing.specs.Docks.{ticking}
+use Rattle.machine.specs.Asks.{ticking}
 use Rattle.machine.specs.declared.Reaction.{Reaction}
 use Rattle.machine.specs.declared.Reaction.the-variants.{Obeyed, Idle, Refused, Late, Fault}
 use Rattle.machine.specs.Answers.{reactionMeans}
@@ -30,7 +30,7 @@ use Rattle.emachine.specs.declared.Ticked.{Ticked}
 use Rattle.emachine.specs.Machines.{boardIn, stateIn, machineOf, tickedOn}
 use Rattle.starting.specs.Starting as S
 use Rattle.starting.specs.Starting.{Started}
-use Rattle.demands.specs.Numbers.{oneOf, start-answers}
+use Rattle.machine.specs.Numbers.{oneOf, start-answers}
 use Rattle.demands.specs.Uses.{Reads, Judges, Readable, means, number, refusal, Refuses, Faults, lateIn, startNumbers, stopped, newMachine, blankMachine, One}
 
 -- ---- the verdict

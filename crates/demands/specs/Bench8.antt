@@ -13,11 +13,11 @@ use Rattle.model.specs.Modules.{portTypes, portStarts}
 use Rattle.refusals.specs.Texts.{moduleOf}
 use Rattle.timing.specs.Slots.{spans}
 use Rattle.timing.specs.Rules.{nextInstant, entered, instant}
-use Rattle.timing.specs.Calls.{Ask, tick, next, finish, View, ask, started, comes, readingTypes}
+use Rattle.timing.specs.Calls.{View, ask, started, comes, readingTypes}
 use Rattle.timing.specs.SlotLaws.{Each}
 use Rattle.timing.specs.Accepted.{ports}
 use Rattle.timing.specs.Lates.{Prompt}
-use Rattle.timing.specs.Docks.{Answer}
+use Rattle.machine.specs.Asks.{Ask, tick, next, finish, Answer}
 use Rattle.emachine.specs.declared.Machine.{Machine}
 use Rattle.refusals.specs.Reading.{readItems, answerBy, moduleBy}
 use Rattle.text.specs.Items.{refusedIn}

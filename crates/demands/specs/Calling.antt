@@ -14,8 +14,7 @@ use Rattle.file.specs.Answers.{writes, written, writeNumber}
 use Rattle.file.specs.declared.WriteAnswer.{WriteAnswer}
 use Rattle.file.specs.declared.WriteAnswer.the-variants as Wr
 use Rattle.timing.specs.SlotLaws.{Each, or-elim}
-use Rattle.timing.specs.Calls.{Ask, tick, next, finish}
-use Rattle.timing.specs.Docks.{Answer, ticking, turning, finishing}
+use Rattle.machine.specs.Asks.{Ask, tick, next, finish, Answer, ticking, turning, finishing}
 use Rattle.machine.specs.declared.Reaction.{Reaction}
 use Rattle.machine.specs.declared.Reaction.the-variants.{Obeyed, Idle, Refused, Late, Fault}
 use Rattle.machine.specs.declared.Turn.{Turn}
@@ -42,7 +41,7 @@ use Rattle.prescribed.specs.Answers.{answered, buffered}
 use Rattle.prescribed.specs.Acceptance as A
 use Rattle.prescribed.specs.Acceptance.{Answers}
 use Rattle.bridge.specs.LaterOnly as L
-use Rattle.demands.specs.Numbers.{oneOf, TickAnswer, NextAnswer, FinishAnswer, tick-only, next-only, finish-only, tick-numbers, next-numbers, finish-numbers}
+use Rattle.machine.specs.Numbers.{oneOf, TickAnswer, NextAnswer, FinishAnswer, tick-only, next-only, finish-only, tick-numbers, next-numbers, finish-numbers}
 use Rattle.demands.specs.Uses.{Compiles, Reads, Writes, Serves, means, number, refusal, Refuses, Faults, lateIn, numbersOf, stopped, One}
 
 -- ---- compile, read, write

@@ -6,9 +6,8 @@ use mathlib.Core.List.{List}
 use lib.ListN.{getD, length}
 use Rattle.model.specs.Modules.{Module}
 use Rattle.timing.specs.Rules.{outputsOf}
-use Rattle.timing.specs.Calls.{Ask}
 use Rattle.timing.specs.PortLaws.{outputCount, SensorPort, ActuatorPort, InputPort}
-use Rattle.timing.specs.Docks.{Answer, ticking}
+use Rattle.machine.specs.Asks.{Ask, Answer, ticking}
 use Rattle.machine.specs.declared.Reaction.the-variants.{Obeyed}
 use Rattle.machine.specs.Calls.{State}
 use Rattle.emachine.specs.declared.Machine.{Machine}

@@ -8,10 +8,11 @@ use mathlib.Core.List.{List, [], _∷_, map}
 use lib.ListN.{length}
 use Rattle.model.specs.Clock.{Instant, early, due, missed, judged, elapsed, fits}
 use Rattle.model.specs.Modules.{Module}
-use Rattle.timing.specs.Calls.{Ask, tick, Reply, waits, reacted, refused, fell, given, taken, View, ask, replies}
+use Rattle.timing.specs.Calls.{Reply, waits, reacted, refused, fell, given, taken, View, ask, replies}
 use Rattle.timing.specs.Lates.{endingNext}
 use Rattle.timing.specs.Counts.{endedOut, ifReacted, releasesIn, endingsIn, count-law}
-use Rattle.timing.specs.Docks.{Answer, ticking, turning, finishing, replyTo}
+use Rattle.timing.specs.Docks.{replyTo}
+use Rattle.machine.specs.Asks.{Ask, tick, Answer, ticking, turning, finishing}
 use Rattle.machine.specs.declared.Reaction.{Reaction}
 use Rattle.machine.specs.declared.Reaction.the-variants.{Obeyed, Idle, Refused, Late, Fault}
 use Rattle.machine.specs.declared.Turn.the-variants as T

@@ -19,12 +19,13 @@ use Rattle.file.specs.declared.WriteAnswer.{WriteAnswer}
 use Rattle.file.specs.declared.WriteAnswer.the-variants.{Wrote}
 use Rattle.timing.specs.SlotLaws.{Each}
 use Rattle.timing.specs.Rules.{outputsOf}
-use Rattle.timing.specs.Calls.{Ask, tick, View, ask, replies, readingTypes}
+use Rattle.timing.specs.Calls.{View, ask, replies, readingTypes}
 use Rattle.timing.specs.Lates.{endingNext, Prompt}
 use Rattle.timing.specs.Orders.{among, dues, Keeps}
 use Rattle.timing.specs.Causes.{Vary, Calm}
 use Rattle.timing.specs.PortLaws.{outputCount, SensorPort, ActuatorPort, InputPort}
-use Rattle.timing.specs.Docks.{Answer, ticking, replyTo}
+use Rattle.timing.specs.Docks.{replyTo}
+use Rattle.machine.specs.Asks.{Ask, tick, Answer, ticking}
 use Rattle.machine.specs.declared.Reaction.{Reaction}
 use Rattle.machine.specs.declared.Reaction.the-variants.{Obeyed, Late}
 use Rattle.machine.specs.Answers.{meaning}
@@ -47,9 +48,9 @@ use Rattle.prescribed.specs.declared.Compiled.the-variants as W
 use Rattle.prescribed.specs.Compiles.{refused, fileOf}
 use Rattle.prescribed.specs.Acceptance.{Answers, Accepts}
 use Rattle.bridge.specs.Promises.{DueNow}
-use Rattle.demands.specs.Numbers.{oneOf}
-use Rattle.demands.specs.Obeys as Op
-use Rattle.demands.specs.Obeys.{Point, At, Calls, goes}
+use Rattle.machine.specs.Numbers.{oneOf}
+use Rattle.machine.specs.Obeys as Op
+use Rattle.machine.specs.Obeys.{Point, At, Calls, goes}
 use Rattle.demands.specs.Uses.{Compiles, Reads, Writes, Judges, Serves, Looks, CountsOut, One, means, number, refusal, Refuses, Faults, lateIn, startNumbers, numbersOf, stopped, newMachine, blankMachine, Readable, stepsFrom, onward, withPorts, Runs, Midway, Launch, Launched, moduleIn, first, rules}
 use Rattle.demands.specs.Terms.{word, Same, InTime, owedAfter, firstOwed, HandsOver, Sets, Senses, Fills, Rests, Alike, releasesSoFar, terminationsSoFar, seen, log}
 use Rattle.demands.specs.Calling as C

@@ -9,13 +9,13 @@ use lib.Dec.{eqb}
 use borrow.Author.Tests.{eq-eqb, eqb-true}
 use Rattle.model.specs.Modules.{Module, Act, Call}
 use Rattle.timing.specs.SlotLaws.{Each, or-left, or-right, or-elim}
-use Rattle.timing.specs.Calls.{Ask, tick, next, finish, View, ask}
+use Rattle.timing.specs.Calls.{View, ask}
 use Rattle.timing.specs.Accepted.{Accepted}
 use Rattle.timing.specs.Orders.{among}
 use Rattle.timing.specs.Ticks.{Due}
 use Rattle.timing.specs.Lates.{endingNext}
 use Rattle.timing.specs.Changes.{tasksOf}
-use Rattle.timing.specs.Docks.{Answer, ticking, turning, finishing}
+use Rattle.machine.specs.Asks.{Ask, tick, next, finish, Answer, ticking, turning, finishing}
 use Rattle.machine.specs.declared.Reaction.the-variants.{Obeyed, Idle, Refused, Late, Fault}
 use Rattle.machine.specs.declared.Finishing.the-variants as F
 use Rattle.demands.specs.Terms.{finishes, Releases, Finishes, Before, FinishedFirst, EachInTime, owing}

@@ -17,11 +17,12 @@ use Rattle.file.specs.Files.{read, decode, sound}
 use Rattle.file.specs.declared.ReadAnswer.the-variants.{Read}
 use Rattle.timing.specs.Rules.{Standing, idle}
 use Rattle.timing.specs.Calls as R
-use Rattle.timing.specs.Calls.{Ask, tick, next, finish, reacted, View, ask, started, comes, replies}
+use Rattle.timing.specs.Calls.{reacted, View, ask, started, comes, replies}
 use Rattle.timing.specs.Accepted.{Accepted}
 use Rattle.timing.specs.PortsAfter.{Aimed}
-use Rattle.timing.specs.Docks.{Answer, ticking, turning, finishing, replyTo, Dock}
+use Rattle.timing.specs.Docks.{replyTo, Dock}
 use Rattle.timing.specs.Histories.{shadow, stopOf}
+use Rattle.machine.specs.Asks.{Ask, tick, next, finish, Answer, ticking, turning, finishing}
 use Rattle.machine.specs.declared.Reaction.{Reaction}
 use Rattle.machine.specs.declared.Reaction.the-variants.{Obeyed, Idle, Refused, Late, Fault}
 use Rattle.machine.specs.declared.Turn.the-variants as T

@@ -11,8 +11,9 @@ use Rattle.model.specs.Clock.{fits}
 use Rattle.refusals.specs.Texts.{moduleOf}
 use Rattle.file.specs.Files.{decode}
 use Rattle.timing.specs.Calls as R
-use Rattle.timing.specs.Calls.{Ask, refused, reacted}
-use Rattle.timing.specs.Docks.{Answer, ticking, replyTo}
+use Rattle.timing.specs.Calls.{refused, reacted}
+use Rattle.timing.specs.Docks.{replyTo}
+use Rattle.machine.specs.Asks.{Ask, Answer, ticking}
 use Rattle.machine.specs.declared.Reaction.the-variants.{Refused}
 use Rattle.machine.specs.Starts.{startOn, start}
 use Rattle.tables.specs.declared.Table.{Table}

@@ -1,5 +1,3 @@
-pub mod Numbers
-pub mod Obeys
 pub mod Uses
 pub mod Terms
 pub mod Calling

@@ -4,9 +4,10 @@ use mathlib.Core.Path.{_≡_, refl, sym, _∙_, ap, ap₂, subst}
 use mathlib.Core.Option.{Option}
 use mathlib.Core.List.{List, [], _∷_}
 use Rattle.model.specs.Modules.{Module}
-use Rattle.timing.specs.Calls.{Ask, Reply}
+use Rattle.timing.specs.Calls.{Reply}
 use Rattle.timing.specs.Orders.{dues, Keeps}
-use Rattle.timing.specs.Docks.{Answer, replyTo}
+use Rattle.timing.specs.Docks.{replyTo}
+use Rattle.machine.specs.Asks.{Ask, Answer}
 use Rattle.machine.specs.Calls.{State}
 use Rattle.tables.specs.declared.Table.{Table}
 use Rattle.emachine.specs.declared.Machine.{Machine}

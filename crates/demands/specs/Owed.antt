@@ -14,7 +14,7 @@ use borrow.Author.Tests.{eqb-true, eqb-false}
 use Rattle.model.specs.Modules.{Module, Act, Call}
 use Rattle.timing.specs.SlotLaws.{Each}
 use Rattle.timing.specs.Rules.{Standing, idle, ready, running, done, Store, well, Place, sensed, terminations, releases, releasedBy}
-use Rattle.timing.specs.Calls.{Ask, tick, next, finish, Reply, waits, reacted, refused, fell, given, taken, View, ask, started, beginning, replies, comes}
+use Rattle.timing.specs.Calls.{Reply, waits, reacted, refused, fell, given, taken, View, ask, started, beginning, replies, comes}
 use Rattle.timing.specs.Accepted.{Accepted}
 use Rattle.timing.specs.Orders.{among}
 use Rattle.timing.specs.Standings.{split, terminated, beginning-idle}
@@ -24,7 +24,8 @@ use Rattle.timing.specs.Changes.{Ending, not-out, handed-over, ending}
 use Rattle.timing.specs.Released.{readied, beginningThere, updatedAt, releases-ready, released-only, start-came}
 use Rattle.timing.specs.Held.{Held, start-held, held-call, next-held}
 use Rattle.timing.specs.Counts.{terms-count, begun-known, same-many, start-many}
-use Rattle.timing.specs.Docks.{Answer, ticking, turning, finishing, replyTo}
+use Rattle.timing.specs.Docks.{replyTo}
+use Rattle.machine.specs.Asks.{Ask, tick, next, finish, Answer, ticking, turning, finishing}
 use Rattle.machine.specs.declared.Reaction.the-variants.{Obeyed, Idle, Refused, Late, Fault}
 use Rattle.machine.specs.declared.Turn.the-variants as T
 use Rattle.machine.specs.declared.Finishing.the-variants as F

@@ -11,14 +11,15 @@ use lib.Dec.{eqb}
 use Rattle.model.specs.Modules.{Module, Act, Call, Update}
 use Rattle.timing.specs.Slots.{closing}
 use Rattle.timing.specs.Rules.{Standing, idle, done, modeAt, outputsOf}
-use Rattle.timing.specs.Calls.{Ask, tick, next, finish, View, remains, ask}
+use Rattle.timing.specs.Calls.{View, remains, ask}
 use Rattle.timing.specs.Accepted.{ports}
 use Rattle.timing.specs.Ticks.{Due, nextTime}
 use Rattle.timing.specs.Lates.{endingNext}
 use Rattle.timing.specs.Orders.{among}
 use Rattle.timing.specs.Changes.{tasksOf}
 use Rattle.timing.specs.Counts.{endedOut}
-use Rattle.timing.specs.Docks.{Answer, ticking, turning, finishing, replyTo}
+use Rattle.timing.specs.Docks.{replyTo}
+use Rattle.machine.specs.Asks.{Ask, tick, next, finish, Answer, ticking, turning, finishing}
 use Rattle.machine.specs.declared.Reaction.the-variants.{Obeyed, Idle, Refused, Late, Fault}
 use Rattle.machine.specs.declared.Finishing.the-variants as F
 use Rattle.machine.specs.Words.{has}

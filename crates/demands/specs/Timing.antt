@@ -11,7 +11,7 @@ use Rattle.model.specs.Clock.{elapsed, fits}
 use Rattle.model.specs.Modules.{Module}
 use Rattle.timing.specs.SlotLaws.{Each}
 use Rattle.timing.specs.Rules.{Standing, idle, ready, running, done, outputsOf}
-use Rattle.timing.specs.Calls.{Ask, tick, next, finish, Reply, reacted, View, ask, started, replies, readingTypes}
+use Rattle.timing.specs.Calls.{Reply, reacted, View, ask, started, replies, readingTypes}
 use Rattle.timing.specs.Accepted.{Accepted, ports}
 use Rattle.timing.specs.Lates.{firstLate, endingNext, Prompt}
 use Rattle.timing.specs.Orders.{among}
@@ -19,7 +19,8 @@ use Rattle.timing.specs.PortLaws.{outputCount}
 use Rattle.timing.specs.Held.{start-held}
 use Rattle.timing.specs.Counts.{start-many}
 use Rattle.timing.specs.Causes.{Vary, Calm, no-trace}
-use Rattle.timing.specs.Docks.{Dock, Answer, ticking, turning, finishing, replyTo}
+use Rattle.timing.specs.Docks.{Dock, replyTo}
+use Rattle.machine.specs.Asks.{Ask, tick, next, finish, Answer, ticking, turning, finishing}
 use Rattle.machine.specs.declared.Reaction.{Reaction}
 use Rattle.machine.specs.declared.Reaction.the-variants.{Obeyed, Idle, Refused, Late, Fault}
 use Rattle.machine.specs.declared.Turn.the-variants as T

@@ -14,10 +14,11 @@ use Rattle.file.specs.Files.{decode}
 use Rattle.file.specs.Answers.{writes, written}
 use Rattle.file.specs.declared.ReadAnswer.the-variants.{Read}
 use Rattle.file.specs.declared.WriteAnswer.{WriteAnswer}
-use Rattle.timing.specs.Calls.{Ask, tick, next, finish, View, started, comes}
-use Rattle.timing.specs.Docks.{Answer, ticking, turning, finishing}
+use Rattle.timing.specs.Calls.{View, started, comes}
+pub use Rattle.machine.specs.Asks.{means}
+use Rattle.machine.specs.Asks.{Ask, tick, next, finish, Answer, ticking, turning, finishing}
 use Rattle.machine.specs.declared.Reaction.the-variants.{Refused}
-use Rattle.machine.specs.Answers.{Meaning, meaning, reactionMeans, turnMeans, finishingMeans}
+use Rattle.machine.specs.Answers.{Meaning, meaning}
 use Rattle.machine.specs.Boards.{boardOf}
 use Rattle.machine.specs.Instructions.{Tally}
 use Rattle.machine.specs.Store.{Store, reaction}
@@ -38,7 +39,7 @@ use Rattle.prescribed.specs.declared.Compiled.the-variants.{Written}
 use Rattle.prescribed.specs.Tables.{tableOf}
 use Rattle.prescribed.specs.Compiles.{compileOf}
 use Rattle.prescribed.specs.Answers.{answered, buffered}
-use Rattle.demands.specs.Obeys.{Point}
+use Rattle.machine.specs.Obeys.{Point}
 
 -- ---- what the contracts say; `starting::start` says `Started` (starting, Starting)
 
@@ -88,12 +89,7 @@ pub record One {A : Type 0} (Meets : A → Type 0) : Type 0 where
 
 -- ---- answers by document 01's numbers
 
--- its number (0: neither a refusal nor a fault), the instructions obeyed, the task that is named
-abbrev pub means : Answer → Meaning
-means (ticking x) = reactionMeans x
-means (turning x) = turnMeans x
-means (finishing x) = finishingMeans x
-
+-- its number: 0 where it is neither a refusal nor a fault (`means`: machine, Asks)
 abbrev pub number : Answer → ℕ
 number x = means x .number
 

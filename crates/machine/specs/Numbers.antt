@@ -20,12 +20,12 @@ use Rattle.machine.specs.declared.Finishing.{Finishing}
 use Rattle.machine.specs.declared.Finishing.the-variants as F
 use Rattle.machine.specs.Words.{lowestIn}
 use Rattle.machine.specs.Boards.{Board, boardOf}
-use Rattle.machine.specs.Instructions.{late, wild, astray, clash, Res, ok, bad, Ops, Future, Tally, noTally, counted, step, Halt, Run, goOn, only, leave, exec}
+use Rattle.machine.specs.Instructions.{Fault, late, wild, astray, clash, Res, ok, bad, Ops, Future, Tally, noTally, counted, step, Halt, Run, goOn, only, leave, exec}
 use Rattle.machine.specs.Store.{Store, storeOps, reaction}
-use Rattle.machine.specs.Calls.{State, Finished, cameTo, reacted, sensed, readingTypes, resultTypes, byInstant, tick, handedOut, nextTask, atWork, finish}
+use Rattle.machine.specs.Calls.{State, Ticked, Finished, faulted, cameTo, reacted, sensed, readingTypes, resultTypes, byInstant, tick, handedOut, nextTask, atWork, finish}
 use Rattle.machine.specs.CallLaws.{taken}
 use Rattle.machine.specs.Starts.{fresh, noMachine, startOn, start}
-use Rattle.machine.specs.Answers.{reactionMeans, turnMeans, finishingMeans}
+use Rattle.machine.specs.Answers.{Meaning, meaning, reactionMeans, turnMeans, finishingMeans}
 
 -- ---- the answers of each call
 
@@ -60,6 +60,13 @@ NextAnswer (T.Refused number) = oneOf (31 ∷ []) number ≡ true
 abbrev pub FinishAnswer : Finishing → Type 0
 FinishAnswer F.Taken = Unit {0}
 FinishAnswer (F.Refused number) = oneOf (31 ∷ 34 ∷ 35 ∷ []) number ≡ true
+
+-- the number of a fault, and the task that is late
+abbrev pub faultMeans : Fault → Meaning
+faultMeans (late task) = meaning 40 0 (some task)
+faultMeans wild = meaning 41 0 none
+faultMeans astray = meaning 42 0 none
+faultMeans clash = meaning 43 0 none
 
 -- ---- a run counts no more instructions than it is allowed
 
@@ -190,6 +197,19 @@ module _ (b : Board) (m : State) where
 
   pub finish-numbers : (task : ℕ) (types words : List ℕ) → oneOf (0 ∷ 31 ∷ 34 ∷ 35 ∷ []) (finishingMeans (finish b m task types words .answer) .number) ≡ true
   finish-numbers = finish-answers (λ r. oneOf (0 ∷ 31 ∷ 34 ∷ 35 ∷ []) (finishingMeans r .number) ≡ true) refl refl refl refl b m
+
+-- ---- a fault is answered with its number, and the machine is stopped by it
+
+pub record Stopped (fault : Fault) (t : Ticked) : Type 0 where
+  pub answered : reactionMeans (t .answer) ≡ faultMeans fault
+  pub stopped : t .state .stopped ≡ true
+  pub number : t .state .fault ≡ faultMeans fault .number
+
+pub fault-stops : (fault : Fault) (m : State) → Stopped fault (faulted fault m)
+fault-stops (late task) m = record { answered = refl; stopped = refl; number = refl }
+fault-stops wild m = record { answered = refl; stopped = refl; number = refl }
+fault-stops astray m = record { answered = refl; stopped = refl; number = refl }
+fault-stops clash m = record { answered = refl; stopped = refl; number = refl }
 
 -- ---- instructions are counted where some were obeyed, and by no other call
 

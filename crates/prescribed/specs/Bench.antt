@@ -22,28 +22,34 @@ use Rattle.machine.specs.Words.{lowestFrom}
 use Rattle.machine.specs.Boards.{Board, boardOf}
 use Rattle.machine.specs.Instructions.{exec}
 use Rattle.machine.specs.Store.{reaction}
-use Rattle.machine.specs.Calls.{State, Ticked, Handed, Finished, reacted, tick, nextTask, finish}
+use Rattle.machine.specs.Calls as C
+use Rattle.machine.specs.Calls.{State, Ticked, reacted, nextTask}
+use Rattle.machine.specs.Asks.{Ask, tick, next, finish, Asked, means, asks}
 use Rattle.machine.specs.Starts.{start}
-use Rattle.machine.specs.Answers.{Meaning, reactionMeans, turnMeans, finishingMeans}
+use Rattle.machine.specs.Answers.{Meaning, reactionMeans}
 use Rattle.prescribed.specs.Tables.{tableOf}
 use Rattle.prescribed.specs.Compiles.{Compiling, file, refused, fileOf, compileOf}
 
 -- ---- what a case asks
 
--- A call, and what must be seen after it: number, instructions and task of the answer, what remains, the module's ports.
-pub data Call : Type 0 where
-  starts ticks : ℕ → List ℕ → Call
-  nexts : Call
-  finishes : ℕ → List ℕ → Call
-
--- a call, and what it must answer and show
-pub record Step : Type 0 where
-  pub calls : Call
+-- What must be seen after a call: number, instructions and task of the answer, what remains, the module's ports.
+pub record Sight : Type 0 where
   pub number : ℕ
   pub instructions : ℕ
   pub task : Option ℕ
   pub remaining : ℕ
   pub ports : List ℕ
+
+-- a start's count and readings, and what must be seen
+pub record Begin : Type 0 where
+  pub count : ℕ
+  pub words : List ℕ
+  pub sight : Sight
+
+-- a call, and what must be seen
+pub record Step : Type 0 where
+  pub call : Ask
+  pub sight : Sight
 
 -- a text and its answer, or a text with calls
 pub data Case : Type 0 where
@@ -51,7 +57,7 @@ pub data Case : Type 0 where
   refuses : List ℕ → ℕ → ℕ → Case  -- text, number, offset
   passes : List ℕ → Case  -- text
   blocks : List ℕ → List ℕ → Case  -- text of one mode, the times of its blocks
-  plays : List ℕ → List Step → Case  -- text, calls on int values
+  plays : List ℕ → Begin → List Step → Case  -- text, start and calls on int values
 
 -- ---- how it is answered
 
@@ -103,32 +109,21 @@ types : List ℕ → List ℕ
 types [] = []
 types (word ∷ words) = int ∷ types words
 
-shows : Step → Meaning → State → Bool
-shows step answer m =
-    (eqb (answer .number) (step .number) && (eqb (answer .instructions) (step .instructions) && sameTask (answer .task) (step .task)))
-    && (eqb (m .remaining) (step .remaining) && same (take (length (step .ports)) (m .store .ports)) (step .ports))
+shows : Sight → Meaning → State → Bool
+shows sight answer m =
+    (eqb (answer .number) (sight .number) && (eqb (answer .instructions) (sight .instructions) && sameTask (answer .task) (sight .task)))
+    && (eqb (m .remaining) (sight .remaining) && same (take (length (sight .ports)) (m .store .ports)) (sight .ports))
 
--- steps from a state on; a start is the first step only
+-- steps from a state on
 stepsOn : Board → List Step → State → Bool
 stepsOn b [] m = true
-stepsOn b (step ∷ steps) m = by (step .calls) (λ after. stepsOn b steps after)
-  where
-    by : Call → (State → Bool) → Bool
-    by (starts count words) on = false
-    by (ticks count words) on = let r = tick b m count (types words) words in shows step (reactionMeans (r .answer)) (r .state) && on (r .state)
-    by nexts on = let r = nextTask m in shows step (turnMeans (r .answer)) (r .state) && on (r .state)
-    by (finishes task words) on = let r = finish b m task (types words) words in shows step (finishingMeans (r .answer)) (r .state) && on (r .state)
+stepsOn b (step ∷ steps) m = let r = asks b (step .call) m in shows (step .sight) (means (r .answer)) (r .state) && stepsOn b steps (r .state)
 
-played : Option Table → List Step → Bool
-played none steps = false
-played (some t) [] = false
-played (some t) (step ∷ steps) = by (step .calls)
-  where
-    by : Call → Bool
-    by (starts count words) = let r = start t count (types words) words in shows step (reactionMeans (r .answer)) (r .state) && stepsOn (boardOf t) steps (r .state)
-    by (ticks count words) = false
-    by nexts = false
-    by (finishes task words) = false
+played : Option Table → Begin → List Step → Bool
+played none begin steps = false
+played (some t) begin steps =
+    let r = start t (begin .count) (types (begin .words)) (begin .words) in
+    shows (begin .sight) (reactionMeans (r .answer)) (r .state) && stepsOn (boardOf t) steps (r .state)
 
 unfoldable pub isFile : Compiling → Bool
 isFile (file content) = true
@@ -154,7 +149,7 @@ holdsOf (gives text content) = isThis (compileOf text room) content
 holdsOf (refuses text number at) = isRefusal (compileOf text room) number at
 holdsOf (passes text) = isFile (compileOf text room)
 holdsOf (blocks text times) = areBlocks (compiled (compileOf text room)) times
-holdsOf (plays text steps) = played (compiled (compileOf text room)) steps
+holdsOf (plays text begin steps) = played (compiled (compileOf text room)) begin steps
 
 -- whether every case holds
 pub every : List Case → Bool
@@ -182,35 +177,42 @@ bikes =
     bytes
     "module M { sensor int bikes uses g; actuator int sign := 0 uses f; task count { input int i; output int o := 10; uses c; } start mode m [period=5ms] { task [freq=1] count(bikes); actuator [freq=1] sign := count.o; } }"
 
-step : Call → ℕ → ℕ → Option ℕ → ℕ → List ℕ → Step
-step calls number instructions task remaining ports = record { calls = calls; number = number; instructions = instructions; task = task; remaining = remaining; ports = ports }
+sight : ℕ → ℕ → Option ℕ → ℕ → List ℕ → Sight
+sight number instructions task remaining ports = record { number = number; instructions = instructions; task = task; remaining = remaining; ports = ports }
+
+ticks : ℕ → List ℕ → Sight → Step
+ticks count words sight = record { call = tick count (types words) words; sight = sight }
 
 -- start at count 4,294,965,000 reading 7: 4 instructions, input 7
-begun : Step
-begun = step (starts 4294965000 (7 ∷ [])) 0 4 none 5000 (7 ∷ 0 ∷ 7 ∷ 10 ∷ [])
+begun : Begin
+begun = record { count = 4294965000; words = 7 ∷ []; sight = sight 0 4 none 5000 (7 ∷ 0 ∷ 7 ∷ 10 ∷ []) }
 
 handed : Step
-handed = step nexts 0 0 (some 0) 5000 (7 ∷ 0 ∷ 7 ∷ 10 ∷ [])
+handed = record { call = next; sight = sight 0 0 (some 0) 5000 (7 ∷ 0 ∷ 7 ∷ 10 ∷ []) }
 
 -- finish with 8: o still 10
 finished : Step
-finished = step (finishes 0 (8 ∷ [])) 0 0 none 5000 (7 ∷ 0 ∷ 7 ∷ 10 ∷ [])
+finished = record { call = finish 0 (int ∷ []) (8 ∷ []); sight = sight 0 0 none 5000 (7 ∷ 0 ∷ 7 ∷ 10 ∷ []) }
 
 -- tick 4,294,967,000: idle, 3,000 remain
 idled : Step
-idled = step (ticks 4294967000 (1 ∷ [])) 0 0 none 3000 (7 ∷ 0 ∷ 7 ∷ 10 ∷ [])
+idled = ticks 4294967000 (1 ∷ []) (sight 0 0 none 3000 (7 ∷ 0 ∷ 7 ∷ 10 ∷ []))
 
 -- tick 2,704 reading 9: 9 instructions, o and sign 8, input 9
 served : Step
-served = step (ticks 2704 (9 ∷ [])) 0 9 none 5000 (9 ∷ 8 ∷ 9 ∷ 8 ∷ [])
+served = ticks 2704 (9 ∷ []) (sight 0 9 none 5000 (9 ∷ 8 ∷ 9 ∷ 8 ∷ []))
+
+-- tick 2,705 instead: 33
+missed : Step
+missed = ticks 2705 (9 ∷ []) (sight 33 0 none 3000 (7 ∷ 0 ∷ 7 ∷ 10 ∷ []))
 
 -- without the finish: fault 40, which names task 0; sign 0
 late : Step
-late = step (ticks 2704 (9 ∷ [])) 40 0 (some 0) 5000 (7 ∷ 0 ∷ 7 ∷ 10 ∷ [])
+late = ticks 2704 (9 ∷ []) (sight 40 0 (some 0) 5000 (7 ∷ 0 ∷ 7 ∷ 10 ∷ []))
 
 -- behind a fault: 31
 stopped : Step
-stopped = step (ticks 2704 (9 ∷ [])) 31 0 none 5000 (7 ∷ 0 ∷ 7 ∷ 10 ∷ [])
+stopped = ticks 2704 (9 ∷ []) (sight 31 0 none 5000 (7 ∷ 0 ∷ 7 ∷ 10 ∷ []))
 
 -- the bench cases marked (P)
 pub cases : List Case
@@ -224,14 +226,13 @@ cases =
     blocks
     (bytes "module M { actuator int a := 0 uses f; task t { output int o := 0; uses f; } start mode m [period=10ms] { task [freq=2] t(); actuator [freq=5] a := t.o; } }")
     (0 ∷ 2000 ∷ 4000 ∷ 5000 ∷ 6000 ∷ 8000 ∷ 10000 ∷ []) ∷
-    plays bikes (begun ∷ handed ∷ finished ∷ idled ∷ served ∷ []) ∷
-    plays bikes (begun ∷ handed ∷ finished ∷ served ∷ []) ∷
-    plays bikes (begun ∷ handed ∷ late ∷ stopped ∷ []) ∷
-    -- tick 2,705 instead: 33
-    plays bikes (begun ∷ handed ∷ finished ∷ idled ∷ step (ticks 2705 (9 ∷ [])) 33 0 none 3000 (7 ∷ 0 ∷ 7 ∷ 10 ∷ []) ∷ served ∷ []) ∷
+    plays bikes begun (handed ∷ finished ∷ idled ∷ served ∷ []) ∷
+    plays bikes begun (handed ∷ finished ∷ served ∷ []) ∷
+    plays bikes begun (handed ∷ late ∷ stopped ∷ []) ∷
+    plays bikes begun (handed ∷ finished ∷ idled ∷ missed ∷ served ∷ []) ∷
     []
 
 -- every one of them holds
 pub bench : T (every cases)
-unfolding isNone isSome sameTask timesFrom aimed tableIn compiled types shows stepsOn played isFile isThis isRefusal areBlocks room holdsOf every smallest smallestFile bikes step begun handed finished idled served late stopped cases refusedIn readItems answerBy moduleBy opened compileOf fileOf tableOf codeOf beginsOf driversOf codeFrom beginsFrom modeCode laterBlocks back front instantsOf instantsFrom nextInstant spans portTypes portStarts fits holds boardOf lowestFrom exec reaction reacted tick nextTask finish start same
+unfolding isNone isSome sameTask timesFrom aimed tableIn compiled types shows stepsOn played isFile isThis isRefusal areBlocks room holdsOf every smallest smallestFile bikes sight ticks begun handed finished idled served missed late stopped cases refusedIn readItems answerBy moduleBy opened compileOf fileOf tableOf codeOf beginsOf driversOf codeFrom beginsFrom modeCode laterBlocks back front instantsOf instantsFrom nextInstant spans portTypes portStarts fits holds boardOf lowestFrom exec reaction reacted C.tick nextTask C.finish start same
 bench = tt
