@@ -3,7 +3,7 @@ use Prim.Native.Nat.{ℕ, _+_}
 use native.Mathlib.Omega.{arith}
 use mathlib.Core.Path.{_≡_, refl, sym, _∙_, ap, ap₂, subst}
 use mathlib.Core.Bool.{Bool, true, false, cond}
-use mathlib.Core.Option.{Option, some}
+use mathlib.Core.Option.{Option, none, some}
 use mathlib.Core.List.{List, [], _∷_, map}
 use lib.ListN.{length}
 use Rattle.model.specs.Clock.{Instant, early, due, missed, judged, elapsed, fits}
@@ -15,7 +15,7 @@ use Rattle.timing.specs.Docks.{replyTo}
 use Rattle.machine.specs.Asks.{Ask, tick, Answer, ticking, turning, finishing}
 use Rattle.machine.specs.declared.Reaction.{Reaction}
 use Rattle.machine.specs.declared.Reaction.the-variants.{Obeyed, Idle, Refused, Late, Fault}
-use Rattle.machine.specs.declared.Turn.the-variants as T
+use Rattle.machine.specs.declared.Turn.the-variants as U
 use Rattle.machine.specs.declared.Finishing.the-variants as F
 use Rattle.machine.specs.Words.{countIn}
 use Rattle.machine.specs.Boards.{Board, boardOf}
@@ -31,10 +31,12 @@ use Rattle.prescribed.specs.Tables.{tableOf}
 use Rattle.bridge.specs.Boards.{board}
 use Rattle.bridge.specs.Docked.{asks}
 use Rattle.bridge.specs.Faithful as Fa
+use Rattle.bridge.specs.Promises.{DueNow}
 use Rattle.bridge.specs.CountKept.{out-counted}
 use Rattle.demands.specs.Uses.{Serves, Runs, Launch, moduleIn, first, rules, newMachine, stepsFrom}
-use Rattle.demands.specs.Terms.{ifObeyed, releasedIn, endedIn, releasesSoFar, terminationsSoFar}
+use Rattle.demands.specs.Terms.{owedAfter, firstOwed, ifObeyed, releasedIn, endedIn, releasesSoFar, terminationsSoFar}
 use Rattle.demands.specs.Joins.{same-board, keeps, begun-is, starts-so, stateAt, Behind, behind, then, obeyed-answer}
+use Rattle.demands.specs.Timing as T
 
 -- ---- instructions
 
@@ -82,9 +84,9 @@ count-same x r n e = go x r e
     go (ticking (Refused k)) r e = ap (λ (y : Reply). ifReacted y n) (held e)
     go (ticking (Late task)) r e = ap (λ (y : Reply). ifReacted y n) (held e)
     go (ticking (Fault k)) r e = let z : _≡_ {A = ℕ} 0 1 = cc in absurd (omega arith)
-    go (turning (T.Task task)) r e = ap (λ (y : Reply). ifReacted y n) (held e)
-    go (turning T.Nobody) r e = ap (λ (y : Reply). ifReacted y n) (held e)
-    go (turning (T.Refused k)) r e = ap (λ (y : Reply). ifReacted y n) (held e)
+    go (turning (U.Task task)) r e = ap (λ (y : Reply). ifReacted y n) (held e)
+    go (turning U.Nobody) r e = ap (λ (y : Reply). ifReacted y n) (held e)
+    go (turning (U.Refused k)) r e = ap (λ (y : Reply). ifReacted y n) (held e)
     go (finishing F.Taken) r e = ap (λ (y : Reply). ifReacted y n) (held e)
     go (finishing (F.Refused k)) r e = ap (λ (y : Reply). ifReacted y n) (held e)
 
@@ -126,6 +128,12 @@ module _ (l : Launch) where
     tick-counts count types words x n call k e =
         let (p, q) = then l calls answers m here (tick count types words) x n call in
         tick-steps (board M) (stateAt l calls) count types words k (unticked (sym p ∙ e)) ∙ ap (λ (y : Machine). stepsFrom M y words) (sym (here .left-so))
+
+    pub due-reacts : (count : ℕ) (types words : List ℕ) (x : Answer) (n : Machine) → Serves m (tick count types words) x n → DueNow M (stateIn m) count types words
+        → firstOwed (endingNext M (rules l calls)) (owedAfter l calls answers) ≡ none → x ≡ ticking (Obeyed (stepsFrom M m words))
+    due-reacts count types words x n call d f =
+        let (k, e) = T.due-reacts l calls answers m run count types words x n call d f in
+        e ∙ ap (λ (i : ℕ). ticking (Obeyed i)) (tick-counts count types words x n call k e)
 
     -- releases so far, terminations of tasks that were out, tasks out by the word
     pub count-kept : releasesSoFar l calls answers ≡ terminationsSoFar l calls answers + countIn (m .standing .out)

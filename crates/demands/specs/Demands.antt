@@ -322,28 +322,31 @@ module _ (l : Launch) where
       pub between : ((steps : ℕ) → x ≢ ticking (Obeyed steps)) → Rests m n
       between = P.between l calls answers m run a x n call
 
-      -- 40 names the first task in text order whose slot ends and that was released and not finished since,
+      -- 40 comes for a late task alone: the first in text order of which a slot ends and that was released and not finished since.
       pub late-only : (task : ℕ) → means x ≡ meaning 40 0 (some task) → firstOwed (endingNext (moduleIn l) (rules l calls)) (owedAfter l calls answers) ≡ some task
       late-only = T.late-only l calls answers m run a x n call
 
-    -- Results show nowhere: calls that differ in the results of some tasks alone, of which no slot ends at them, are answered and show alike.
+    -- Unfinished slots show nowhere: calls that differ only in the results of some tasks, of which no slot ends at these calls, are answered alike and leave the same mode and ports.
     pub unseen : (tasks : ℕ → Bool) (one other : List Ask) (answers₁ answers₂ : List Answer) (n₁ n₂ : Machine) → Runs m one answers₁ n₁ → Runs m other answers₂ n₂
         → Vary (moduleIn l) tasks one other → Calm (moduleIn l) tasks one (rules l calls) → Alike (moduleIn l) answers₁ n₁ answers₂ n₂
     unseen = T.unseen l calls answers m run
 
     module _ (count : ℕ) (types words : List ℕ) (x : Answer) (n : Machine) (call : Serves m (tick count types words) x n) where
-      -- and if there is one, the machine stops at that very instant and names it.
+      -- If a task is late, the machine stops at that very instant and names the first late task;
       pub late-named : (task : ℕ) → DueNow (moduleIn l) (stateIn m) count types words → firstOwed (endingNext (moduleIn l) (rules l calls)) (owedAfter l calls answers) ≡ some task
           → (means x ≡ meaning 40 0 (some task)) × (n ≡ stopped 40 task m)
       late-named = T.late-named l calls answers m run count types words x n call
 
-      -- An instant missed is a refusal, not a fault: nothing changes, so a later call with the due count is still served (`obeys`).
-      pub missed : m .standing .stopped ≡ false → fits (readingTypes (moduleIn l)) types words ≡ true → m .standing .remaining < elapsed (m .standing .clock) count → (means x ≡ refusal 33) × (n ≡ m)
-      missed = T.missed l calls answers m run count types words x n call
+      -- if none is, a due tick is a reaction. Every reaction answers with the definition's count of instructions.
+      pub due-reacts : DueNow (moduleIn l) (stateIn m) count types words → firstOwed (endingNext (moduleIn l) (rules l calls)) (owedAfter l calls answers) ≡ none → x ≡ ticking (Obeyed (stepsFrom (moduleIn l) m words))
+      due-reacts = N.due-reacts l calls answers m run count types words x n call
 
-      -- A reaction answers with the definition's count of instructions.
       pub instructions : (steps : ℕ) → x ≡ ticking (Obeyed steps) → steps ≡ stepsFrom (moduleIn l) m words
       instructions = N.tick-counts l calls answers m run count types words x n call
+
+      -- A missed instant is a refusal, not a fault: nothing changes, so a later call with the due count is still served.
+      pub missed : m .standing .stopped ≡ false → fits (readingTypes (moduleIn l)) types words ≡ true → m .standing .remaining < elapsed (m .standing .clock) count → (means x ≡ refusal 33) × (n ≡ m)
+      missed = T.missed l calls answers m run count types words x n call
 
   -- The order in which tasks are handed out and finished between due ticks does not show (document 02, R-13).
   pub order-hidden : (readings : ℕ → List ℕ) (results : ℕ → ℕ → List ℕ) (one other : List Ask) (answers₁ answers₂ : List Answer) (n₁ n₂ : Machine)

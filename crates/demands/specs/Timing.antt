@@ -11,9 +11,9 @@ use Rattle.model.specs.Clock.{elapsed, fits}
 use Rattle.model.specs.Modules.{Module}
 use Rattle.timing.specs.SlotLaws.{Each}
 use Rattle.timing.specs.Rules.{Standing, idle, ready, running, done, outputsOf}
-use Rattle.timing.specs.Calls.{Reply, reacted, View, ask, started, replies, readingTypes}
+use Rattle.timing.specs.Calls.{Reply, reacted, View, Said, ask, started, replies, readingTypes}
 use Rattle.timing.specs.Accepted.{Accepted, ports}
-use Rattle.timing.specs.Lates.{firstLate, endingNext, Prompt}
+use Rattle.timing.specs.Lates.{firstLate, endingNext, in-time-reacts, Prompt}
 use Rattle.timing.specs.Orders.{among}
 use Rattle.timing.specs.PortLaws.{outputCount}
 use Rattle.timing.specs.Held.{start-held}
@@ -47,7 +47,7 @@ use Rattle.demands.specs.Terms.{Same, Alike, InTime, owedFirst, owedAfte
 use Rattle.demands.specs.Calling.{fault-is, fault-names, number-small}
 use Rattle.demands.specs.Owed.{clear-is-prompt, owes-calls, owes-first, first-same}
 use Rattle.demands.specs.Firsts.{in-time-clear, clear-first, clear-in-time}
-use Rattle.demands.specs.Joins.{all, same-board, keeps, begun-is, starts-so, stateAt, Behind, behind, then, shown-same}
+use Rattle.demands.specs.Joins.{obeyed-answer, all, same-board, keeps, begun-is, starts-so, stateAt, Behind, behind, then, shown-same}
 
 -- ---- small things
 
@@ -175,6 +175,18 @@ module _ (l : Launch) where
           let d1 : DueNow M s count types words = subst (λ (k : Machine). DueNow M (stateIn k) count types words) (here .left-so) d in
           let r = P.late-named M (keeps l) (l .count) (l .types) (l .words) (starts-so l) calls count types words task d1 (sym late-same ∙ f) in
           (ap means (o .0 ∙ r .answers), o .1 ∙ ap (machineOf (l .reading .table)) (r .leaves) ∙ ap (stopped 40 task) (sym (here .left-so)))
+
+      -- a due tick with nobody owed whose slot ends is a reaction
+      pub due-reacts : DueNow M (stateIn m) count types words → firstOwed (endingNext M (rules l calls)) (owedAfter l calls answers) ≡ none → (steps : ℕ) × (x ≡ ticking (Obeyed steps))
+      due-reacts d f =
+          let v = rules l calls in
+          let o = on (tick count types words) x n call in
+          let d1 : DueNow M s count types words = subst (λ (k : Machine). DueNow M (stateIn k) count types words) (here .left-so) d in
+          let g : firstLate (endingNext M v) (v .place .store .tasks) ≡ none = ap (firstLate (endingNext M v)) (sym (tasks-same M (keeps l) s v (here .near))) ∙ sym late-same ∙ f in
+          let said = in-time-reacts M v count types words (P.due-same M (keeps l) s v (here .near) count types words d1) g .2 in
+          let r : replyTo (asks M (tick count types words) s .answer) ≡ some reacted = one-call M (keeps l) (tick count types words) s v (here .near) .says ∙ ap (λ (y : Said). some (y .reply)) said in
+          let (k, q) = obeyed-answer (asks M (tick count types words) s .answer) r in
+          (k, o .0 ∙ q)
 
       pub missed : m .standing .stopped ≡ false → fits (readingTypes M) types words ≡ true → m .standing .remaining < elapsed (m .standing .clock) count → (means x ≡ refusal 33) × (n ≡ m)
       missed live fit past =
