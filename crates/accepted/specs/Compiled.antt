@@ -12,7 +12,7 @@ use Rattle.refusals.specs.RulesOrder.{verdict-leftmost}
 use Rattle.refusals.specs.Texts.{allRules, verdictOf, moduleOf}
 use Rattle.prescribed.specs.Tables.{tableOf}
 use Rattle.prescribed.specs.Compiles.{file, fileOf, compileOf}
-use Rattle.prescribed.specs.Acceptance.{Unbroken, accepts}
+use Rattle.prescribed.specs.Acceptance.{Unbroken, free, accepts}
 use Rattle.timing.specs.PortsAfter.{Aimed}
 use Rattle.accepted.specs.Accepts.{accepted}
 use Rattle.accepted.specs.Aims.{aimed}
@@ -24,13 +24,13 @@ unbroken-fine text h = leftmost-unique (allRules text) (verdictOf text) Fine (ve
 
 module _ (text : List ℕ) (room : ℕ) (content : List ℕ) (written : compileOf text room ≡ file content) where
   pub compiled-accepted : Accepted (moduleOf text)
-  compiled-accepted = let a = accepts text room content written in accepted text (a .readable .syntax) (unbroken-fine text (a .unbroken))
+  compiled-accepted = let a = accepts text room content written in accepted text (free (a .readable)) (unbroken-fine text (a .unbroken))
 
   pub compiled-aimed : Aimed (moduleOf text)
-  compiled-aimed = let a = accepts text room content written in aimed text (a .readable .syntax) (unbroken-fine text (a .unbroken))
+  compiled-aimed = let a = accepts text room content written in aimed text (free (a .readable)) (unbroken-fine text (a .unbroken))
 
   pub compiled-sound : sound (tableOf (moduleOf text)) ≡ true
-  compiled-sound = let a = accepts text room content written in table-sound text (a .readable .syntax) (unbroken-fine text (a .unbroken)) (a .code-fits)
+  compiled-sound = let a = accepts text room content written in table-sound text (free (a .readable)) (unbroken-fine text (a .unbroken)) (a .code-fits)
 
   pub compiled-reads : decode content ≡ read (tableOf (moduleOf text))
   unfolding fileOf

@@ -13,3 +13,4 @@ pub mod RoundTrips
 pub mod Answers
 pub mod Returned
 pub mod Tagged
+pub mod Numbers

@@ -1,5 +1,5 @@
 // The E-code file: the table that it holds, and its bytes.
-// Promises, as theorems (specs/): reading what was written gives the same table, writing what was read the same bytes.
+// Promises, as theorems (specs/): reading what was written gives the same table, writing what was read the same bytes; no answer has another number than document 01's.
 // Builds on codec, model and text.
 
 // The reader returns a table, which stands beside this answer, or one number and no table.

@@ -30,7 +30,7 @@ use Rattle.prescribed.specs.Compiles.{Compiling, file, refused, fileOf, 
 
 -- ---- what a case asks
 
--- A call, and what must be seen after it: number and instructions of the answer, what remains, the module's ports.
+-- A call, and what must be seen after it: number, instructions and task of the answer, what remains, the module's ports.
 pub data Call : Type 0 where
   starts ticks : ℕ → List ℕ → Call
   nexts : Call
@@ -41,6 +41,7 @@ pub record Step : Type 0 where
   pub calls : Call
   pub number : ℕ
   pub instructions : ℕ
+  pub task : Option ℕ
   pub remaining : ℕ
   pub ports : List ℕ
 
@@ -54,6 +55,18 @@ pub data Case : Type 0 where
 
 -- ---- how it is answered
 
+isNone : Option ℕ → Bool
+isNone none = true
+isNone (some n) = false
+
+isSome : Option ℕ → ℕ → Bool
+isSome none n = false
+isSome (some m) n = eqb m n
+
+sameTask : Option ℕ → Option ℕ → Bool
+sameTask none other = isNone other
+sameTask (some task) other = isSome other task
+
 -- the times of blocks that follow one another by their futures
 timesFrom : ℕ → List Instr → List ℕ
 timesFrom t [] = t ∷ []
@@ -65,6 +78,18 @@ timesFrom t (iff guard pc ∷ rest) = timesFrom t rest
 timesFrom t (jump pc ∷ rest) = timesFrom t rest
 timesFrom t (return ∷ rest) = timesFrom t rest
 timesFrom t (switch mode ∷ rest) = timesFrom t rest
+
+-- whether every future of one mode's code names the block behind it, which begins behind the next return, and the jump its begin block
+aimed : ℕ → Option ℕ → List Instr → Bool
+aimed place target [] = isNone target
+aimed place target (nop marker ∷ rest) = aimed (place + 1) target rest
+aimed place target (future pc delay ∷ rest) = isNone target && aimed (place + 1) (some pc) rest
+aimed place target (call driver ∷ rest) = aimed (place + 1) target rest
+aimed place target (release task ∷ rest) = aimed (place + 1) target rest
+aimed place target (iff guard pc ∷ rest) = aimed (place + 1) target rest
+aimed place target (jump pc ∷ rest) = eqb pc 0 && aimed (place + 1) target rest
+aimed place target (return ∷ rest) = isSome target (place + 1) && aimed (place + 1) none rest
+aimed place target (switch mode ∷ rest) = aimed (place + 1) target rest
 
 tableIn : Answer → Option Table
 tableIn (read t) = some t
@@ -80,7 +105,7 @@ types (word ∷ words) = int ∷ types words
 
 shows : Step → Meaning → State → Bool
 shows step answer m =
-    (eqb (answer .number) (step .number) && eqb (answer .instructions) (step .instructions))
+    (eqb (answer .number) (step .number) && (eqb (answer .instructions) (step .instructions) && sameTask (answer .task) (step .task)))
     && (eqb (m .remaining) (step .remaining) && same (take (length (step .ports)) (m .store .ports)) (step .ports))
 
 -- steps from a state on; a start is the first step only
@@ -105,7 +130,7 @@ played (some t) (step ∷ steps) = by (step .calls)
     by nexts = false
     by (finishes task words) = false
 
-isFile : Compiling → Bool
+unfoldable pub isFile : Compiling → Bool
 isFile (file content) = true
 isFile (refused number at) = false
 
@@ -113,13 +138,13 @@ isThis : Compiling → List ℕ → Bool
 isThis (file content) wanted = same content wanted
 isThis (refused number at) wanted = false
 
-isRefusal : Compiling → ℕ → ℕ → Bool
+unfoldable pub isRefusal : Compiling → ℕ → ℕ → Bool
 isRefusal (file content) number at = false
 isRefusal (refused given there) number at = eqb given number && eqb there at
 
 areBlocks : Option Table → List ℕ → Bool
 areBlocks none times = false
-areBlocks (some t) times = same (timesFrom 0 (t .code)) times
+areBlocks (some t) times = same (timesFrom 0 (t .code)) times && aimed 0 none (t .code)
 
 room : ℕ
 room = 100000
@@ -139,7 +164,7 @@ every (c ∷ cs) = holdsOf c && every cs
 -- ---- the cases
 
 -- 1: 77 bytes
-smallest : List ℕ
+unfoldable pub smallest : List ℕ
 smallest = bytes "module M { start mode m [period = 5ms] { } }"
 
 smallestFile : List ℕ
@@ -157,27 +182,35 @@ bikes =
     bytes
     "module M { sensor int bikes uses g; actuator int sign := 0 uses f; task count { input int i; output int o := 10; uses c; } start mode m [period=5ms] { task [freq=1] count(bikes); actuator [freq=1] sign := count.o; } }"
 
-step : Call → ℕ → ℕ → ℕ → List ℕ → Step
-step calls number instructions remaining ports = record { calls = calls; number = number; instructions = instructions; remaining = remaining; ports = ports }
+step : Call → ℕ → ℕ → Option ℕ → ℕ → List ℕ → Step
+step calls number instructions task remaining ports = record { calls = calls; number = number; instructions = instructions; task = task; remaining = remaining; ports = ports }
 
 -- start at count 4,294,965,000 reading 7: 4 instructions, input 7
 begun : Step
-begun = step (starts 4294965000 (7 ∷ [])) 0 4 5000 (7 ∷ 0 ∷ 7 ∷ 10 ∷ [])
+begun = step (starts 4294965000 (7 ∷ [])) 0 4 none 5000 (7 ∷ 0 ∷ 7 ∷ 10 ∷ [])
 
 handed : Step
-handed = step nexts 0 0 5000 (7 ∷ 0 ∷ 7 ∷ 10 ∷ [])
+handed = step nexts 0 0 (some 0) 5000 (7 ∷ 0 ∷ 7 ∷ 10 ∷ [])
 
 -- finish with 8: o still 10
 finished : Step
-finished = step (finishes 0 (8 ∷ [])) 0 0 5000 (7 ∷ 0 ∷ 7 ∷ 10 ∷ [])
+finished = step (finishes 0 (8 ∷ [])) 0 0 none 5000 (7 ∷ 0 ∷ 7 ∷ 10 ∷ [])
 
 -- tick 4,294,967,000: idle, 3,000 remain
 idled : Step
-idled = step (ticks 4294967000 (1 ∷ [])) 0 0 3000 (7 ∷ 0 ∷ 7 ∷ 10 ∷ [])
+idled = step (ticks 4294967000 (1 ∷ [])) 0 0 none 3000 (7 ∷ 0 ∷ 7 ∷ 10 ∷ [])
 
 -- tick 2,704 reading 9: 9 instructions, o and sign 8, input 9
 served : Step
-served = step (ticks 2704 (9 ∷ [])) 0 9 5000 (9 ∷ 8 ∷ 9 ∷ 8 ∷ [])
+served = step (ticks 2704 (9 ∷ [])) 0 9 none 5000 (9 ∷ 8 ∷ 9 ∷ 8 ∷ [])
+
+-- without the finish: fault 40, which names task 0; sign 0
+late : Step
+late = step (ticks 2704 (9 ∷ [])) 40 0 (some 0) 5000 (7 ∷ 0 ∷ 7 ∷ 10 ∷ [])
+
+-- behind a fault: 31
+stopped : Step
+stopped = step (ticks 2704 (9 ∷ [])) 31 0 none 5000 (7 ∷ 0 ∷ 7 ∷ 10 ∷ [])
 
 -- the bench cases marked (P)
 pub cases : List Case
@@ -193,13 +226,12 @@ cases =
     (0 ∷ 2000 ∷ 4000 ∷ 5000 ∷ 6000 ∷ 8000 ∷ 10000 ∷ []) ∷
     plays bikes (begun ∷ handed ∷ finished ∷ idled ∷ served ∷ []) ∷
     plays bikes (begun ∷ handed ∷ finished ∷ served ∷ []) ∷
-    -- without the finish: fault 40, sign 0
-    plays bikes (begun ∷ handed ∷ step (ticks 2704 (9 ∷ [])) 40 0 5000 (7 ∷ 0 ∷ 7 ∷ 10 ∷ []) ∷ []) ∷
+    plays bikes (begun ∷ handed ∷ late ∷ stopped ∷ []) ∷
     -- tick 2,705 instead: 33
-    plays bikes (begun ∷ handed ∷ finished ∷ idled ∷ step (ticks 2705 (9 ∷ [])) 33 0 3000 (7 ∷ 0 ∷ 7 ∷ 10 ∷ []) ∷ served ∷ []) ∷
+    plays bikes (begun ∷ handed ∷ finished ∷ idled ∷ step (ticks 2705 (9 ∷ [])) 33 0 none 3000 (7 ∷ 0 ∷ 7 ∷ 10 ∷ []) ∷ served ∷ []) ∷
     []
 
 -- every one of them holds
 pub bench : T (every cases)
-unfolding timesFrom tableIn compiled types shows stepsOn played isFile isThis isRefusal areBlocks room holdsOf every smallest smallestFile bikes step begun handed finished idled served cases refusedIn readItems answerBy moduleBy opened compileOf fileOf tableOf codeOf beginsOf driversOf codeFrom beginsFrom modeCode laterBlocks back front instantsOf instantsFrom nextInstant spans portTypes portStarts fits holds boardOf lowestFrom exec reaction reacted tick nextTask finish start same
+unfolding isNone isSome sameTask timesFrom aimed tableIn compiled types shows stepsOn played isFile isThis isRefusal areBlocks room holdsOf every smallest smallestFile bikes step begun handed finished idled served late stopped cases refusedIn readItems answerBy moduleBy opened compileOf fileOf tableOf codeOf beginsOf driversOf codeFrom beginsFrom modeCode laterBlocks back front instantsOf instantsFrom nextInstant spans portTypes portStarts fits holds boardOf lowestFrom exec reaction reacted tick nextTask finish start same
 bench = tt

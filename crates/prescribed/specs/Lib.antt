@@ -3,3 +3,5 @@ pub mod Compiles
 pub mod Answers
 pub mod Bench
 pub mod Acceptance
+pub mod Numbers
+pub mod RefusalCases

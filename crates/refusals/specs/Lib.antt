@@ -11,6 +11,7 @@ pub mod Texts
 pub mod Reading
 pub mod Cases
 pub mod ModuleCases
+pub mod ClauseCases
 pub mod RoomCases
 pub mod ChecksLaws
 pub mod Order

@@ -1,7 +1,7 @@
--- What a text with everything once means, written out.
+-- What a text with everything once means, written out; and what signs mean.
 use Prim.Native.Nat.{ℕ}
 use mathlib.Core.Path.{_≡_, refl}
-use mathlib.Core.List.{List, [], _∷_}
+use mathlib.Core.List.{List, [], _∷_, map}
 use mathlib.Core.Bool.{Bool, true, false}
 use mathlib.Core.Option.{Option, none, some}
 use lib.Dec.{T}
@@ -79,3 +79,11 @@ dock-passes = tt
 pub dock-means : moduleBy dockText (readItems dockText) ≡ dock
 unfolding dockText dock readItems moduleBy
 dock-means = refl
+
+-- -0 is 0, the least int is 2 ^ 31, and the last of two constants is not the first
+pub signs : List ℕ
+signs = bytes "module S { const a = 1; b = -2147483648; actuator int p := -0 uses f; int q := b uses f; start mode m [period=1us] { } }"
+
+pub signs-mean : map (λ actuator. actuator .start) (moduleBy signs (readItems signs) .actuators) ≡ 0 ∷ 2147483648 ∷ []
+unfolding signs readItems moduleBy
+signs-mean = refl

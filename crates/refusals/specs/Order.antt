@@ -17,27 +17,36 @@ key number at = at * 32 + number
 abbrev pub keyOf : Check → ℕ
 keyOf c = key (c .number) (c .at)
 
+-- a number of the table's rows 4 to 12
+abbrev pub OfTable : ℕ → Type 0
+OfTable number = (4 ≤ number) × (number ≤ 12)
+
 -- the keys rise from lo up to hi
 abbrev pub Chain : ℕ → List Check → ℕ → Type 0
 Chain lo [] hi = lo ≤ hi
-Chain lo (c ∷ cs) hi = (lo ≤ keyOf c) × (c .number < 32) × Chain (keyOf c) cs hi
+Chain lo (c ∷ cs) hi = (lo ≤ keyOf c) × OfTable (c .number) × Chain (keyOf c) cs hi
 
-precedes : (n a m b : ℕ) → n < 32 → m < 32 → key n a ≤ key m b → Precedes n a m b
+precedes : (n a m b : ℕ) → OfTable n → OfTable m → key n a ≤ key m b → Precedes n a m b
 precedes n a m b h k e = go (ltb a b) refl
   where
     go : (t : Bool) → ltb a b ≡ t → Precedes n a m b
     go true q = inl (ltb-true a b q)
     go false q = let r = ltb-false a b q in inr (omega arith, omega arith)
 
--- what is broken in a chain has its key in it
-inside : (lo hi : ℕ) (cs : List Check) → Chain lo cs hi → (n a : ℕ) → Cause cs n a → (lo ≤ key n a) × (n < 32)
+chain-up : (lo hi : ℕ) (cs : List Check) → Chain lo cs hi → lo ≤ hi
+chain-up lo hi [] h = h
+chain-up lo hi (c ∷ cs) h = let k = chain-up (keyOf c) hi cs (h .2) in omega arith
+
+-- what is broken in a chain has its key in it, and a number of the table
+pub inside : (lo hi : ℕ) (cs : List Check) → Chain lo cs hi → (n a : ℕ) → Cause cs n a → (lo ≤ key n a) × OfTable n × (key n a ≤ hi)
 unfolding Cause
 inside lo hi [] h n a e = absurd e
 inside lo hi (c ∷ cs) h n a (inl e) =
     let x = ap (λ (c : Check). c .number) e in
     let y = ap (λ (c : Check). c .at) e in
-    (omega (arith, x, y, h .0), omega (arith, x, h .1))
-inside lo hi (c ∷ cs) h n a (inr e) = let z = inside (keyOf c) hi cs (h .2) n a e in (omega (arith, z .0, h .0), z .1)
+    let k = chain-up (keyOf c) hi cs (h .2) in
+    (omega (arith, x, y, h .0), (omega (arith, x, h .1 .0), omega (arith, x, h .1 .1)), omega (arith, x, y, k))
+inside lo hi (c ∷ cs) h n a (inr e) = let z = inside (keyOf c) hi cs (h .2) n a e in (omega (arith, z .0, h .0), z .1, z .2)
 
 not-both : {b : Bool} → b ≡ false → b ≡ true → ⊥
 not-both p q = let z : _≡_ {A = ℕ} 0 1 = cc in omega arith

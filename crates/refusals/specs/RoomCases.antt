@@ -7,9 +7,11 @@ use mathlib.Core.Bool.{Bool, true, false, _&&_}
 use lib.Dec.{T}
 use Rattle.model.specs.Bytes.{bytes, same, placeIn}
 use Rattle.text.specs.declared.Name.{Name}
+use Rattle.text.specs.declared.Port.{Port}
 use Rattle.text.specs.declared.Literal.the-variants.{Truth}
 use Rattle.text.specs.declared.Item.{Item}
 use Rattle.text.specs.declared.Item.the-variants as I
+use Rattle.refusals.specs.Checks.{isFine}
 use Rattle.refusals.specs.Reading.{answerBy}
 use Rattle.refusals.specs.Cases.{isNo}
 
@@ -66,9 +68,18 @@ mode acts k = I.ModeBegin false 0 (name k) one false ∷ (acts ++ (I.ModeEnd ∷
 abbrev switch : ℕ → List Item
 switch k = I.Activity 4 k one ∷ I.Switch (name 0) ∷ []
 
--- an invocation of the task declared before, and then n switches
+abbrev source : Port
+source = record { first = name 2; second = name 2; dotted = false }
+
+-- an invocation, an update, and then n switches
 abbrev busy : ℕ → List Item
-busy n = task [] 1 ++ mode (I.Activity 2 0 one ∷ I.Invoke (name 1) 0 ∷ each n switch) 0
+busy n =
+    sensor 2 ++ (actuator 3 ++ (task [] 1 ++
+    mode (I.Activity 2 0 one ∷ I.Invoke (name 1) 0 ∷ I.Activity 3 0 one ∷ I.Update (name 3) source ∷ each n switch) 0))
+
+-- nothing is too many
+abbrev fits : List Item → Bool
+fits items = isFine (answerBy text items)
 
 -- 11 at a place, and nothing left of it
 abbrev tooMany : ℕ → List Item → Bool
@@ -93,6 +104,12 @@ pub ports : T (roomInTask 8 input && (roomInTask 8 output && (roomInAll 16 input
 unfolding text same placeIn answerBy
 ports = tt
 
-pub activities : T (tooMany 31 (busy 32))
+-- inputs and outputs are counted apart, in a task and in all
+pub ports-apart : T (fits (task (each 8 input ++ each 8 (λ k. output (8 + k))) 0) && fits (each 16 (task (each 8 input)) ++ task (output 8) 16))
+unfolding text same placeIn answerBy
+ports-apart = tt
+
+-- 30 switches fit beside an invocation and an update, and the next activity does not
+pub activities : T (tooMany 30 (busy 31) && fits (busy 30))
 unfolding text same placeIn answerBy
 activities = tt

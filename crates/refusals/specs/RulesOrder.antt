@@ -18,7 +18,7 @@ use Rattle.text.specs.Items.{itemAt, goes, onto, itemsIn, itemsOf}
 use Rattle.text.specs.Advance.{item-ahead, item-laid}
 use Rattle.model.specs.Modules.{Mode}
 use Rattle.refusals.specs.declared.Row.{Row}
-use Rattle.refusals.specs.Checks.{Check, Leftmost, first}
+use Rattle.refusals.specs.Checks.{Check, Cause, Leftmost, first}
 use Rattle.refusals.specs.Names.{constantSort, sensorSort, actuatorSort, taskSort, modeSort, inputSort, outputSort, noType}
 use Rattle.refusals.specs.Refusals.{longName}
 use Rattle.refusals.specs.Values.{typeNamed, typeRules, useRules, valueRules}
@@ -27,7 +27,7 @@ use Rattle.refusals.specs.Ports.{taskNamed, dottedRules, placeRules}
 use Rattle.refusals.specs.Activities.{startRules, periodRules, headRules, guardRules, invokeRules, actuatorNamed, actuatorRules, targetRules, endRules}
 use Rattle.refusals.specs.Rules.{Env, nothing, grow, rules, rulesFrom}
 use Rattle.refusals.specs.Texts.{allRules, verdictOf, declaredBy}
-use Rattle.refusals.specs.Order.{Chain, chain-append, chain-leftmost}
+use Rattle.refusals.specs.Order.{Chain, inside, chain-append, chain-leftmost}
 use Rattle.refusals.specs.Strict.{Strict, item-strict}
 
 -- before every rule of a place
@@ -202,6 +202,15 @@ chain-from (suc fuel) s all env state at h =
     by true e c on = chain-append (before at) (before next) (behind s) (rules s all env item) _ c (on (item-ahead s state at h e .1))
     by false e c on = chain-append (before at) (behind s) (behind s) (rules s all env item) [] c (omega arith)
 
+text-chain : (s : List ℕ) → Chain (before 0) (allRules s) (behind s)
+text-chain s = chain-from (length s + 1 - 0) s (declaredBy s (itemsOf s)) nothing Q.Begin 0 (omega arith)
+
 -- The answer is the leftmost of 4 to 12, at equal offsets the lowest number.
 pub verdict-leftmost : (s : List ℕ) → Leftmost (allRules s) (verdictOf s)
-verdict-leftmost s = chain-leftmost (before 0) (behind s) (allRules s) (chain-from (length s + 1 - 0) s (declaredBy s (itemsOf s)) nothing Q.Begin 0 (omega arith))
+verdict-leftmost s = chain-leftmost (before 0) (behind s) (allRules s) (text-chain s)
+
+-- Every rule has a number from 4 to 12 and stands in the text or at its end.
+pub cause-listed : (s : List ℕ) (number at : ℕ) → Cause (allRules s) number at → (4 ≤ number) × (number ≤ 12) × (at ≤ length s)
+cause-listed s number at e =
+    let i = inside (before 0) (behind s) (allRules s) (text-chain s) number at e in
+    (i .1 .0, i .1 .1, omega (arith, i .1 .0, i .2))

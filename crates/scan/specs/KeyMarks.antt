@@ -12,7 +12,7 @@ use Rattle.model.specs.Bytes.{same, placeIn}
 use Rattle.text.specs.Words.{keywords, keyword}
 use Rattle.text.specs.WordsLaws.{same→eq, same-lengths}
 use Rattle.text.specs.EachEntry.{both, both-left, both-right, each-entry}
-use Rattle.text.specs.KeyTable.{keyLengths}
+use Rattle.text.specs.KeyTable.{keyNumbers}
 use Rattle.scan.specs.Slices.{slice-length}
 
 -- a word's mark: its first letter, twice its last but one and five times its length
@@ -54,13 +54,13 @@ sized k n = both (leb 2 (length (keyword k))) (leb (length (keyword k)) 12)
 placed : ℕ → ℕ → Bool
 placed k n = both (eqb (marked (markOf (keyword k))) k) (eqb (placeIn keywords 0 (keyword k)) k)
 
-every-sized : (k : ℕ) → k < 22 → T (sized k (getD keyLengths k 0))
+every-sized : (k : ℕ) → k < 22 → T (sized k (getD keyNumbers k 0))
 unfolding sized keywords
-every-sized k h = each-entry sized keyLengths tt k h
+every-sized k h = each-entry sized keyNumbers tt k h
 
-every-placed : (k : ℕ) → k < 22 → T (placed k (getD keyLengths k 0))
+every-placed : (k : ℕ) → k < 22 → T (placed k (getD keyNumbers k 0))
 unfolding placed marked keywords placeIn same
-every-placed k h = each-entry placed keyLengths tt k h
+every-placed k h = each-entry placed keyNumbers tt k h
 
 module _ (k : ℕ) (h : k < 22) where
   key-long : 2 ≤ length (keyword k)

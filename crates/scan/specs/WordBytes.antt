@@ -12,10 +12,9 @@ use Rattle.model.specs.Bytes.{same, placeIn}
 use Rattle.text.specs.declared.Token.the-variants as Token
 use Rattle.text.specs.Words.{within, letter, digit, wordByte, munchAt, keywords, keyword}
 use Rattle.text.specs.Tokens.{keyTokens, wordToken}
-use Rattle.text.specs.KeyTable.{key-none}
+use Rattle.text.specs.KeyTable.{keyNumbers, key-none}
 use Rattle.text.specs.WordsLaws as words
 use Rattle.text.specs.EachEntry.{both, both-left, both-right, each-entry, every}
-use Rattle.text.specs.KeyTable.{keyLengths}
 use Rattle.scan.specs.Runs.{takes, small, mark, Closed}
 use Rattle.scan.specs.KeyMarks.{no-keyword, is-keyword}
 use Rattle.scan.specs.Slices.{slice-length}
@@ -121,7 +120,7 @@ allSmall k n = smallAll (keyword k)
 
 key-small : (k : ℕ) → k < 22 → T (smallAll (keyword k))
 unfolding allSmall smallAll keywords
-key-small k h = each-entry allSmall keyLengths tt k h
+key-small k h = each-entry allSmall keyNumbers tt k h
 
 module _ (w : List ℕ) (j : ℕ) (h : j < length w) (large : small (getD w j 0) ≡ false) where
   unlike : (k : ℕ) → k < 22 → same w (keyword k) ≡ false

@@ -18,7 +18,7 @@ use Rattle.rules.specs.Going.{allNames, tabledBy, Judges}
 use Rattle.refusals.specs.declared.Verdict.{Verdict}
 use Rattle.timing.specs.Code.{codeOf}
 use Rattle.prescribed.specs.declared.Compiled.{Compiled}
-use Rattle.prescribed.specs.Acceptance.{Readable}
+use Rattle.prescribed.specs.Acceptance.{Readable, free}
 use Rattle.prescribed.specs.Compiles.{Compiling, refused, fileOf, inRoom, compileOf}
 use Rattle.prescribed.specs.Answers.{answered, buffered}
 
@@ -70,12 +70,12 @@ module _ (text : List ℕ) (room : ℕ) where
 
   pub broken : Readable text → (number at : ℕ) → verdictOf text ≡ No number at → compileOf text room ≡ refused number at
   unfolding compileOf
-  broken r number at e = rw (le-ltb textRoom (length text) (r .short), r .syntax, e) refl
+  broken r number at e = rw (le-ltb textRoom (length text) (r .short), free r, e) refl
 
   pub overfull : Readable text → verdictOf text ≡ Fine → codeRoom < length (codeOf (moduleOf text)) → compileOf text room ≡ refused 13 (length text)
   unfolding compileOf
-  overfull r v h = rw (le-ltb textRoom (length text) (r .short), r .syntax, v, lt-ltb codeRoom (length (codeOf (moduleOf text))) h) refl
+  overfull r v h = rw (le-ltb textRoom (length text) (r .short), free r, v, lt-ltb codeRoom (length (codeOf (moduleOf text))) h) refl
 
   pub in-room : Readable text → verdictOf text ≡ Fine → length (codeOf (moduleOf text)) ≤ codeRoom → compileOf text room ≡ inRoom (length text) room (fileOf (moduleOf text))
   unfolding compileOf
-  in-room r v h = rw (le-ltb textRoom (length text) (r .short), r .syntax, v, le-ltb codeRoom (length (codeOf (moduleOf text))) h) refl
+  in-room r v h = rw (le-ltb textRoom (length text) (r .short), free r, v, le-ltb codeRoom (length (codeOf (moduleOf text))) h) refl

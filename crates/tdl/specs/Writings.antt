@@ -19,6 +19,7 @@ use Rattle.layout.specs.Rows.{zeros}
 use Rattle.layout.specs.Plain.{structOf}
 use Rattle.filing.specs.Whole.{rolesAside, file-aside}
 use Rattle.ecode.specs.Sound.{bytesOf, Holds, holds-file}
+use Rattle.prescribed.specs.Acceptance.{free}
 use Rattle.prescribed.specs.Tables.{tableOf}
 use Rattle.prescribed.specs.declared.Compiled.{Compiled}
 use Rattle.prescribed.specs.declared.Compiled.the-variants.{Written, Refused}
@@ -66,14 +67,14 @@ module _ {text names : List ℕ} {rows : ℕ} (a : Unbroken text names rows)
   bare = tableIn (boardOf ports name sensorNames actuatorNames taskNames outputNames (d .roles) types starts taskRows) (sheet plan guardRows driverRows acts modeNames modeRows modes)
 
   bare-is : bare ≡ structOf (uncoded (moduleOf text))
-  bare-is = ap₂ (λ (b : Board) (h : Sheet). tableIn b h) (d .is) p ∙ table-right text names rows (a .declared) (a .readable .syntax) (a .verdict)
+  bare-is = ap₂ (λ (b : Board) (h : Sheet). tableIn b h) (d .is) p ∙ table-right text names rows (a .declared) (free (a .readable)) (a .verdict)
 
   held : HoldsModes modes acts 0 (moduleOf text .modes)
-  held = subst (λ (h : Sheet). HoldsModes (h .modes) (h .acts) 0 (moduleOf text .modes)) (sym p) (plans-right text names rows (a .declared) (a .readable .syntax) (a .verdict) .modes-held)
+  held = subst (λ (h : Sheet). HoldsModes (h .modes) (h .acts) 0 (moduleOf text .modes)) (sym p) (plans-right text names rows (a .declared) (free (a .readable)) (a .verdict) .modes-held)
 
   coded : (count ≡ length (codeOf (moduleOf text))) × (count ≤ codeRoom → withCode bare count heads code ≡ structOf (tableOf (moduleOf text)))
   coded =
-      let W = accepted text (a .readable .syntax) (a .verdict) in
+      let W = accepted text (free (a .readable)) (a .verdict) in
       coded-right (moduleOf text) modes acts (W .few-modes) (W .few-tasks) held bare bare-is c
 
   -- 13
@@ -93,7 +94,7 @@ module _ {text names : List ℕ} {rows : ℕ} (a : Unbroken text names rows)
       let n = coded .0 in
       let fits : length (codeOf M) ≤ codeRoom = omega arith in
       let t = withCode bare count heads code in
-      let holds : Holds t = record { table = tableOf M; good = table-sound text (a .readable .syntax) (a .verdict) fits; is = sym (coded .1 h) } in
+      let holds : Holds t = record { table = tableOf M; good = table-sound text (free (a .readable)) (a .verdict) fits; is = sym (coded .1 h) } in
       let bytes = file-aside 71364 t ∙ holds-file t holds in
       let c = in-room text (length before) (a .readable) (a .verdict) fits in
       let (p, q) = by-room (length text) (fileOf M) before _ refl in

@@ -1,4 +1,5 @@
 -- What productions are made of. A reading sticks: behind a refusal nothing more is read.
+-- A working definition: crate grammar proves that what is refused, and what is read, is the grammar's.
 use Prim.Native.Nat.{ℕ}
 use mathlib.Core.List.{List}
 use mathlib.Core.Bool.{Bool, cond}

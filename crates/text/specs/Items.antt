@@ -1,4 +1,5 @@
--- Document 01, 'The text of a module': the text as a list of items, and refusals 2 and 3, the leftmost of them.
+-- The text as a list of items, read one by one, and refusals 2 and 3, the leftmost of them.
+-- A working definition: crate grammar states document 01's grammar as data, and proves that the refusals and the items are the grammar's.
 use Prim.Native.Nat.{ℕ, zero, suc, _+_, _-_}
 use mathlib.Core.List.{List, [], _∷_}
 use mathlib.Core.Bool.{Bool, true, false, cond}

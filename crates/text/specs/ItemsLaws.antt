@@ -11,7 +11,7 @@ use Rattle.text.specs.declared.State.the-variants as Q
 use Rattle.text.specs.declared.Item.{Item}
 use Rattle.text.specs.declared.Item.the-variants as I
 use Rattle.text.specs.declared.ReadItem.{ReadItem}
-use Rattle.text.specs.Items.{itemAt, goes, itemsIn, itemsFrom, Refusal, refuse, refusedOr, refusedIn, syntaxOf}
+use Rattle.text.specs.Items.{itemAt, goes, itemsIn, itemsFrom, itemsOf, Refusal, refuse, refusedOr, refusedIn, syntaxOf}
 use Rattle.text.specs.PartsLaws.{unsaid}
 use Rattle.text.specs.ExpectLaws.{Refused}
 use Rattle.text.specs.Advance.{item-ahead, item-no}
@@ -46,6 +46,50 @@ module _ (s : List ℕ) (state : State) (at : ℕ) (h : at ≤ length s) where
 
   pub from-stop : goes (itemAt s state at .item) ≡ false → itemsFrom s state at ≡ itemAt s state at .item ∷ []
   from-stop e = rw less (in-stop _ s state at e)
+
+-- ---- where the items end
+
+-- items that go on, up to the end of the text or a refusal
+pub data Ends : List Item → Type 0 where
+  at-end : Ends (I.End ∷ [])
+  at-refusal : (number offset : ℕ) → Ends (I.No number offset ∷ [])
+  onward : (item : Item) {items : List Item} → goes item ≡ true → Ends items → Ends (item ∷ items)
+
+-- only the end and a refusal do not go on
+ends-here : (item : Item) → goes item ≡ false → Ends (item ∷ [])
+ends-here (I.Module name) e = absurd (unsaid (sym e))
+ends-here I.Section e = absurd (unsaid (sym e))
+ends-here (I.Constant name value) e = absurd (unsaid (sym e))
+ends-here (I.Sensor typ name getter) e = absurd (unsaid (sym e))
+ends-here (I.Actuator typ name value setter) e = absurd (unsaid (sym e))
+ends-here (I.TaskBegin name) e = absurd (unsaid (sym e))
+ends-here (I.Input typ name) e = absurd (unsaid (sym e))
+ends-here (I.Output typ name value) e = absurd (unsaid (sym e))
+ends-here (I.TaskEnd name) e = absurd (unsaid (sym e))
+ends-here (I.ModeBegin start at name digits milli) e = absurd (unsaid (sym e))
+ends-here (I.Activity kind at digits) e = absurd (unsaid (sym e))
+ends-here (I.Guard name count) e = absurd (unsaid (sym e))
+ends-here (I.GuardArg port) e = absurd (unsaid (sym e))
+ends-here (I.Invoke task count) e = absurd (unsaid (sym e))
+ends-here (I.Arg port) e = absurd (unsaid (sym e))
+ends-here (I.Update actuator source) e = absurd (unsaid (sym e))
+ends-here (I.Switch name) e = absurd (unsaid (sym e))
+ends-here I.ModeEnd e = absurd (unsaid (sym e))
+ends-here I.ModuleEnd e = absurd (unsaid (sym e))
+ends-here I.End e = at-end
+ends-here (I.No number offset) e = at-refusal number offset
+
+-- whatever the fuel, if it is more than the bytes left, the items end in the end or a refusal: fuel never cuts them off
+pub items-end : (fuel : ℕ) (s : List ℕ) (state : State) (at : ℕ) → at ≤ length s → length s < at + fuel → Ends (itemsIn fuel s state at)
+items-end zero s state at o h = absurd (omega arith)
+items-end (suc fuel) s state at o h = by (goes (itemAt s state at .item)) refl (λ m n. items-end fuel s _ _ n (omega (arith, m)))
+  where
+    by : (b : Bool) → goes (itemAt s state at .item) ≡ b → (at < itemAt s state at .next → itemAt s state at .next ≤ length s → Ends (itemsIn fuel s (itemAt s state at .state) (itemAt s state at .next))) → Ends (itemsIn (suc fuel) s state at)
+    by false e on = rw (in-stop fuel s state at e) (ends-here _ e)
+    by true e on = let w = item-ahead s state at o e in rw (in-on fuel s state at e) (onward _ e (on (w .0) (w .1)))
+
+pub text-ends : (s : List ℕ) → Ends (itemsOf s)
+text-ends s = items-end _ s Q.Begin 0 (omega arith) (omega arith)
 
 -- ---- what was refused
 
@@ -99,27 +143,12 @@ asItem (some refusal) = I.No (refusal .number) (refusal .offset)
 
 -- an item that does not go on, and refuses, is that refusal
 stops : (item : Item) (number offset : ℕ) → goes item ≡ false → refusedOr item none ≡ refuse number offset → item ≡ I.No number offset
-stops (I.Module name) number offset g e = absurd (unsaid (sym g))
-stops I.Section number offset g e = absurd (unsaid (sym g))
-stops (I.Constant name value) number offset g e = absurd (unsaid (sym g))
-stops (I.Sensor typ name getter) number offset g e = absurd (unsaid (sym g))
-stops (I.Actuator typ name value setter) number offset g e = absurd (unsaid (sym g))
-stops (I.TaskBegin name) number offset g e = absurd (unsaid (sym g))
-stops (I.Input typ name) number offset g e = absurd (unsaid (sym g))
-stops (I.Output typ name value) number offset g e = absurd (unsaid (sym g))
-stops (I.TaskEnd name) number offset g e = absurd (unsaid (sym g))
-stops (I.ModeBegin start at name digits milli) number offset g e = absurd (unsaid (sym g))
-stops (I.Activity kind at digits) number offset g e = absurd (unsaid (sym g))
-stops (I.Guard name count) number offset g e = absurd (unsaid (sym g))
-stops (I.GuardArg port) number offset g e = absurd (unsaid (sym g))
-stops (I.Invoke task count) number offset g e = absurd (unsaid (sym g))
-stops (I.Arg port) number offset g e = absurd (unsaid (sym g))
-stops (I.Update actuator source) number offset g e = absurd (unsaid (sym g))
-stops (I.Switch name) number offset g e = absurd (unsaid (sym g))
-stops I.ModeEnd number offset g e = absurd (unsaid (sym g))
-stops I.ModuleEnd number offset g e = absurd (unsaid (sym g))
-stops I.End number offset g e = let z : _≡_ {A = ℕ} 0 1 = cc in absurd (omega arith)
-stops (I.No n at) number offset g e = ap asItem e
+stops item number offset g e = by (ends-here item g) g e
+  where
+    by : {item : Item} → Ends (item ∷ []) → goes item ≡ false → refusedOr item none ≡ refuse number offset → item ≡ I.No number offset
+    by at-end g e = let z : _≡_ {A = ℕ} 0 1 = cc in absurd (omega arith)
+    by (at-refusal n at) g e = ap asItem e
+    by (onward item h r) g e = absurd (unsaid (sym g ∙ h))
 
 module _ (s : List ℕ) (number offset : ℕ) where
   in-none : (state : State) (at : ℕ) → refusedIn (itemsIn zero s state at) ≡ none

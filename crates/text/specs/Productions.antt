@@ -1,4 +1,5 @@
--- Document 01, 'The text of a module': the grammar, production by production. An item is as much of one as stands between two repetitions.
+-- The productions of the grammar, read token by token. An item is as much of one as stands between two repetitions.
+-- A working definition: crate grammar states document 01's grammar as data, and proves that what is refused, and what is read, is the grammar's.
 -- Names have no meaning yet: of a value, a port or an argument only the tokens count.
 use Prim.Native.Nat.{ℕ, zero, suc, _+_, _-_}
 use mathlib.Core.List.{List}

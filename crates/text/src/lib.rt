@@ -1,5 +1,5 @@
 // The text of a module as data: tokens, and the flat list of items that the grammar makes of them.
-// Promises nothing of itself: its definitions (specs/) say which token and which item stands at a place, and refusals 2 and 3.
+// Promises nothing of itself: its definitions (specs/) say which token stands at a place, and how items and refusals 2 and 3 are read; crate grammar says which they are.
 // Builds on model.
 
 // White space and comments end at a place; or a block comment that starts there is not closed.

@@ -4,6 +4,7 @@ use Rattle.items.specs.Answers.{told}
 use Rattle.tdl.specs.Stages.{compiles, long, unreadable}
 use native.Mathlib.Omega.{arith}
 use borrow.Author.Needs.{needs}
+use Rattle.grammar.specs.Syntax.{syntax-free}
 use Rattle.tdl.proofs.compile.Statement.{statement}
 use Rattle.tdl.proofs.compile.Tie as tie
 
@@ -36,7 +37,7 @@ slice-aggregate-judged c = search needs
 judged-requires : tie.Need-judged-requires
 judged-requires c κs =
     let syntax = c .before .before .before .before .before .syntax in
-    (record { short = omega (arith, c .before .before .before .before .before .before .before .if1 .left); syntax = told _ _ (sym (c .before .before .enum-told .given .1) ∙ syntax .ensures .0) }, syntax .ensures .1)
+    (record { short = omega (arith, c .before .before .before .before .before .before .before .if1 .left); is-module = syntax-free _ .0 (told _ _ (sym (c .before .before .enum-told .given .1) ∙ syntax .ensures .0)) }, syntax .ensures .1)
 
 same-length : tie.Need-same-length
 same-length c = search needs

@@ -1,0 +1,16 @@
+pub mod Expressions
+pub mod Making
+pub mod Grammar
+pub mod Judgement
+pub mod JudgementLaws
+pub mod Empties
+pub mod Firsts
+pub mod Readings
+pub mod States
+pub mod Taken
+pub mod Operands
+pub mod DeclarationSteps
+pub mod ModeSteps
+pub mod Steps
+pub mod Comes
+pub mod Syntax
