@@ -13,7 +13,8 @@ use Rattle.model.specs.Clock.{elapsed, fits}
 use Rattle.model.specs.Modules.{place, copyTo}
 use Rattle.model.specs.Instructions.{Instr, nop, future, call, release, iff, jump, return, switch, updates, releases, terminates}
 use Rattle.refusals.specs.Texts.{moduleOf}
-use Rattle.file.specs.Answers.{writeNumber}
+use Rattle.file.specs.Answers.{readNumber, writeNumber}
+use Rattle.file.specs.Bounds.{Between}
 use Rattle.file.specs.declared.ReadAnswer.the-variants.{Read}
 use Rattle.file.specs.declared.WriteAnswer.{WriteAnswer}
 use Rattle.file.specs.declared.WriteAnswer.the-variants.{Wrote}
@@ -38,6 +39,7 @@ use Rattle.machine.specs.Starts.{fresh}
 use Rattle.tables.specs.declared.Table.{Table}
 use Rattle.layout.specs.Plain.{structOf}
 use Rattle.reading.specs.declared.Reading.{Reading}
+use Rattle.ecode.specs.Sound.{bytesOf}
 use Rattle.emachine.specs.declared.Machine.{Machine}
 use Rattle.emachine.specs.declared.Ticked.{Ticked}
 use Rattle.emachine.specs.Machines.{boardIn, stateIn, tickedOn}
@@ -47,6 +49,7 @@ use Rattle.prescribed.specs.declared.Compiled.{Compiled}
 use Rattle.prescribed.specs.declared.Compiled.the-variants as W
 use Rattle.prescribed.specs.Compiles.{refused, fileOf}
 use Rattle.prescribed.specs.Acceptance.{Answers, Accepts}
+use Rattle.prescribed.specs.Numbers.{Listed}
 use Rattle.bridge.specs.Promises.{DueNow}
 use Rattle.machine.specs.Numbers.{oneOf}
 use Rattle.machine.specs.Obeys as Op
@@ -83,7 +86,18 @@ start-defined = B.start-one
 pub call-defined : (m : Machine) (a : Ask) → One {A = Answer × Machine} (λ r. Serves m a (r .0) (r .1))
 call-defined = C.call-one
 
--- No other refusal or fault exists: start answers 30, 32, 40 to 43, or 0 for none; tick 31 to 33, 40 to 43; next 31; finish 31, 34, 35.
+-- No other refusal exists: compile refuses with one of 1 to 14 at a place in the text or at its end; read gives a table or one of 20 to 24; write the length of the file, 30 or 14.
+pub compile-numbers : (text before : List ℕ) (number at : ℕ) (after : List ℕ) → Compiles text before (W.Refused number at) after → Listed text number at
+compile-numbers = C.compile-numbers
+
+pub read-numbers : (bytes : List ℕ) (r : Reading) → Reads bytes r → (r .answer ≡ Read) ⊎ Between 20 24 (readNumber (r .answer))
+read-numbers = C.read-numbers
+
+pub write-numbers : (table : Table) (before : List ℕ) (answer : WriteAnswer) (after : List ℕ) → Writes table before answer after
+    → (answer ≡ Wrote (length (bytesOf table))) ⊎ ((writeNumber answer ≡ 30) ⊎ (writeNumber answer ≡ 14))
+write-numbers = C.write-numbers
+
+-- Nor any other refusal or fault of the machine: start answers 30, 32, 40 to 43, or 0 for none; tick 31 to 33, 40 to 43; next 31; finish 31, 34, 35.
 pub start-numbers : (table : Table) (count : ℕ) (types words : List ℕ) (r : Ticked) → Started table count types words r → oneOf startNumbers (number (ticking (r .answer))) ≡ true
 start-numbers = B.start-numbers
 
