@@ -24,7 +24,7 @@ use Rattle.machine.specs.declared.Turn.{Turn}
 use Rattle.machine.specs.declared.Turn.the-variants as T
 use Rattle.machine.specs.declared.Finishing.{Finishing}
 use Rattle.machine.specs.declared.Finishing.the-variants as F
-use Rattle.machine.specs.Answers.{Meaning, reactionMeans, turnMeans, finishingMeans}
+use Rattle.machine.specs.Answers.{Meaning}
 use Rattle.machine.specs.Calls as C
 use Rattle.machine.specs.Calls.{State}
 use Rattle.machine.specs.Leaves.{Leaves, tick-leaves, LeavesNext, next-leaves, LeavesFinish, finish-leaves}

@@ -1,9 +1,9 @@
 -- The three demands over the code's contracts, one theorem for each sentence. Read Uses and Terms for the words; the proofs stand elsewhere and are cited.
 use Prim.Native.Nat.{ℕ, suc, _+_, _*_, _≤_, _<_}
-use mathlib.Core.Path.{_≡_, refl}
+use mathlib.Core.Path.{_≡_}
 use mathlib.Core.Logic.{_≢_, _⊎_}
 use mathlib.Core.Bool.{Bool, true, false, cond, _&&_, not}
-use mathlib.Core.Option.{Option, none, some}
+use mathlib.Core.Option.{none, some}
 use mathlib.Core.List.{List, _++_, map}
 use lib.ListN.{length, getD, set, take, drop}
 use Rattle.codec.specs.Codecs.{Bytes}
@@ -11,7 +11,7 @@ use Rattle.model.specs.Rooms.{portRoom}
 use Rattle.model.specs.Values.{holds, noGuard}
 use Rattle.model.specs.Clock.{elapsed, fits}
 use Rattle.model.specs.Modules.{place, copyTo}
-use Rattle.model.specs.Instructions.{Instr, nop, future, call, release, iff, jump, return, switch, updates, releases, terminates}
+use Rattle.model.specs.Instructions.{nop, future, call, release, iff, jump, return, switch, updates, releases, terminates}
 use Rattle.refusals.specs.Texts.{moduleOf}
 use Rattle.file.specs.Answers.{readNumber, writeNumber}
 use Rattle.file.specs.Bounds.{Between}
@@ -20,7 +20,7 @@ use Rattle.file.specs.declared.WriteAnswer.{WriteAnswer}
 use Rattle.file.specs.declared.WriteAnswer.the-variants.{Wrote}
 use Rattle.timing.specs.SlotLaws.{Each}
 use Rattle.timing.specs.Rules.{outputsOf}
-use Rattle.timing.specs.Calls.{View, ask, replies, readingTypes}
+use Rattle.timing.specs.Calls.{ask, replies, readingTypes}
 use Rattle.timing.specs.Lates.{endingNext, Prompt}
 use Rattle.timing.specs.Orders.{among, dues, Keeps}
 use Rattle.timing.specs.Causes.{Vary, Calm}
@@ -144,7 +144,7 @@ module _ (table : Table) (count : ℕ) (types words : List ℕ) (r : Ticked) (s 
   pub start-obeys : Readable table → fits (M.readingTypes (boardIn table)) types words ≡ true → r ≡ tickedOn table (M.reacted (boardIn table) (fresh (boardIn table) count) count words)
   start-obeys = B.start-obeys table count types words r s
 
--- Look shows the whole machine, stopped or not, and never refuses; the tasks out are counted from the word.
+-- Look shows the whole machine, stopped or not, and never refuses, so a call behind it is a call of the machine; the tasks out are counted from the word.
 pub look-shows : (m shown : Machine) → Looks m shown → shown ≡ m
 look-shows m shown looks = looks
 
