@@ -1,21 +1,18 @@
 -- The tasks out by the ones of the machine's word are those that the rules say are out.
-use Prim.Native.Nat.{ℕ, zero, suc, _+_, _≤_, _<_}
+use Prim.Native.Nat.{ℕ, zero, suc, _+_, _≤_}
 use native.Mathlib.Omega.{arith}
 use mathlib.Core.Path.{_≡_, refl, sym, _∙_, ap}
 use mathlib.Core.Bool.{Bool, true, false, cond}
 use mathlib.Core.List.{List}
-use lib.Dec.{lit≤}
-use Rattle.model.specs.Rooms.{taskRoom}
 use Rattle.model.specs.Modules.{Module}
 use Rattle.timing.specs.Rules.{Standing}
 use Rattle.timing.specs.Calls.{View}
 use Rattle.timing.specs.Accepted.{Accepted}
 use Rattle.timing.specs.Standings.{isOut, howMany, howManyOut}
-use Rattle.machine.specs.Words.{has, countFrom, countIn}
+use Rattle.machine.specs.Words.{has, countFrom}
 use Rattle.machine.specs.Calls.{State, tasksOut}
 use Rattle.bridge.specs.Tabulated.{tab}
 use Rattle.bridge.specs.Views.{standOf, tasks, standAt, standings}
-use Rattle.bridge.specs.Docked.{dockOf}
 use Rattle.bridge.specs.Beside.{Beside}
 use Rattle.bridge.specs.Promises.{tasks-same}
 

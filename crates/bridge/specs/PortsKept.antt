@@ -1,6 +1,5 @@
 -- Nothing early (document 01, 'What time does'): when a port of the machine changes, and to what.
 use Prim.Native.Nat.{ℕ, _+_, _*_, _<_}
-use native.Mathlib.Omega.{arith}
 use mathlib.Core.Path.{_≡_, refl, sym, _∙_, ap, subst}
 use mathlib.Core.Logic.{_≢_, _⊎_, inl, inr}
 use mathlib.Core.Bool.{Bool, true, false, cond}
@@ -23,7 +22,7 @@ use Rattle.timing.specs.PortLaws.{SensorPort, ActuatorPort, InputPort, outputCo
 use Rattle.timing.specs.PortsAfter.{Aimed}
 use Rattle.timing.specs.NothingEarly as N
 use Rattle.timing.specs.NothingEarly.{fit-history}
-use Rattle.timing.specs.Docks.{Answer, ticking, replyTo}
+use Rattle.timing.specs.Docks.{ticking, replyTo}
 use Rattle.machine.specs.declared.Reaction.the-variants.{Obeyed, Refused}
 use Rattle.machine.specs.declared.Turn.the-variants as T
 use Rattle.machine.specs.declared.Finishing.the-variants as F
@@ -33,9 +32,9 @@ use Rattle.machine.specs.Instructions.{Res, ok, bad, Halt, Tally}
 use Rattle.machine.specs.Words.{lowestIn, joined}
 use Rattle.machine.specs.Store.{Store, reaction}
 use Rattle.machine.specs.Calls as K
-use Rattle.machine.specs.Calls.{State, Ticked, Handed, Finished, faulted, cameTo, sensed, byInstant, readingTypes, resultTypes, handedOut, atWork}
+use Rattle.machine.specs.Calls.{State, Ticked, Finished, faulted, cameTo, sensed, byInstant, readingTypes, resultTypes, handedOut, atWork}
 use Rattle.bridge.specs.Boards.{board}
-use Rattle.bridge.specs.Docked.{Asked, asks, dockOf}
+use Rattle.bridge.specs.Docked.{asks, dockOf}
 use Rattle.bridge.specs.Faithful.{Started}
 use Rattle.bridge.specs.Beside.{Beside, one-call, beside}
 use Rattle.bridge.specs.Sources.{Sourced, Set, actuator-updated}

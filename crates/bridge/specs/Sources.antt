@@ -4,7 +4,7 @@ use native.Mathlib.Omega.{arith}
 use native.Mathlib.Decide.{ℕ-discrete, decLt}
 use mathlib.Core.Path.{_≡_, refl, sym, _∙_, ap, subst}
 use mathlib.Core.Logic.{_≢_, _⊎_, inl, inr}
-use mathlib.Core.Bool.{Bool, true, false, cond, _||_}
+use mathlib.Core.Bool.{Bool, true, false, cond}
 use mathlib.Core.List.{List, [], _∷_, _++_, map, append-assoc}
 use lib.ListN.{length, getD, set, length-append, length-set}
 use lib.Seq.{getD-append-add, getD-set-same, getD-set-other}
@@ -26,7 +26,7 @@ use Rattle.timing.specs.PortLaws.{mapped, place-above, task-ports-within, input
 use Rattle.timing.specs.PortsAfter.{Aimed, fits-long}
 use Rattle.timing.specs.Changes.{Fit, fit-sensed, fit-terminations, Off, terminations-off, releases-off}
 use Rattle.prescribed.specs.Compiles.{file, compileOf}
-use Rattle.prescribed.specs.Acceptance.{accepts}
+use Rattle.prescribed.specs.Acceptance.{free, accepts}
 use Rattle.accepted.specs.Lists.{each-map, each-at}
 use Rattle.accepted.specs.Meanings.{rolesOf}
 use Rattle.accepted.specs.Takes.{Updated, Drives, modes-drive}
@@ -119,7 +119,7 @@ unfolding goodDriver
 compiled-sourced text room content e =
     let a = accepts text room content e in
     let M = moduleOf text in
-    let drive = modes-drive text (a .readable .syntax) (unbroken-fine text (a .unbroken)) in
+    let drive = modes-drive text (free (a .readable)) (unbroken-fine text (a .unbroken)) in
     record { sources = λ k h. each-map (Updated M) (λ u. Source M (u .what .source)) (λ u g. source-is M (u .what .source) (and-left _ _ (and-left _ _ g))) (getD (M .modes) k noMode .updates) (each-at (Drives M) noMode (M .modes) k drive h .updated) }
 
 -- ---- what updates leave in a port

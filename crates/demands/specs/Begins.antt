@@ -3,35 +3,31 @@ use Prim.Native.Nat.{ℕ, _≤_}
 use native.Mathlib.Omega.{arith}
 use mathlib.Core.Path.{_≡_, refl, sym, _∙_, ap, subst}
 use mathlib.Core.Bool.{Bool, true, false, cond}
-use mathlib.Core.List.{List, [], _∷_}
+use mathlib.Core.List.{List}
 use Rattle.model.specs.Clock.{fits}
 use Rattle.file.specs.Files.{Answer, read, refused, decode}
 use Rattle.file.specs.Returned.{returned-sound}
 use Rattle.file.specs.declared.ReadAnswer.the-variants.{Read}
 use Rattle.machine.specs.Asks.{ticking}
-use Rattle.machine.specs.declared.Reaction.{Reaction}
-use Rattle.machine.specs.declared.Reaction.the-variants.{Obeyed, Idle, Refused, Late, Fault}
+use Rattle.machine.specs.declared.Reaction.the-variants.{Refused}
 use Rattle.machine.specs.Answers.{reactionMeans}
-use Rattle.machine.specs.Boards.{Board}
 use Rattle.machine.specs.Instructions.{late, wild, astray, clash, Res, ok, bad, Halt, Tally}
 use Rattle.machine.specs.Store.{Store, reaction}
 use Rattle.machine.specs.Calls as C
 use Rattle.machine.specs.Calls.{State, cameTo, sensed}
 use Rattle.machine.specs.Starts.{startOn, fresh, noMachine}
 use Rattle.tables.specs.declared.Table.{Table}
-use Rattle.layout.specs.Plain.{structOf}
 use Rattle.reading.specs.declared.Reading.{Reading}
 use Rattle.reading.specs.Readings.{readingOf}
 use Rattle.encoding.specs.ByteLaws.{file-whole}
-use Rattle.ecode.specs.Sound.{Holds, soundIn, bytesOf, sound-holds, holds-sound}
+use Rattle.ecode.specs.Sound.{soundIn, bytesOf, holds-sound}
 use Rattle.ecode.specs.Theorems.{read-written}
-use Rattle.emachine.specs.declared.Machine.{Machine}
 use Rattle.emachine.specs.declared.Ticked.{Ticked}
-use Rattle.emachine.specs.Machines.{boardIn, stateIn, machineOf, tickedOn}
+use Rattle.emachine.specs.Machines.{boardIn, machineOf, tickedOn}
 use Rattle.starting.specs.Starting as S
 use Rattle.starting.specs.Starting.{Started}
 use Rattle.machine.specs.Numbers.{oneOf, start-answers}
-use Rattle.demands.specs.Uses.{Reads, Judges, Readable, means, number, refusal, Refuses, Faults, lateIn, startNumbers, stopped, newMachine, blankMachine, One}
+use Rattle.demands.specs.Uses.{Judges, Readable, means, number, refusal, Refuses, Faults, lateIn, startNumbers, stopped, newMachine, blankMachine, One}
 
 -- ---- the verdict
 

@@ -3,11 +3,11 @@ use Prim.Native.Nat.{ℕ}
 use native.Mathlib.Omega.{arith}
 use mathlib.Core.Path.{_≡_, refl, sym, _∙_, ap, subst}
 use mathlib.Core.Bool.{Bool, true, false}
-use mathlib.Core.Option.{Option, none, some}
+use mathlib.Core.Option.{Option, some}
 use mathlib.Core.List.{List, [], _∷_}
 use lib.ListN.{length, take, replicate, length-replicate}
 use Rattle.model.specs.Bytes.{bytes, same}
-use Rattle.model.specs.Values.{int, holds}
+use Rattle.model.specs.Values.{int}
 use Rattle.model.specs.Clock.{fits}
 use Rattle.model.specs.Modules.{portTypes, portStarts}
 use Rattle.refusals.specs.Texts.{moduleOf}

@@ -10,7 +10,10 @@ use lib.Dec.{eqb, leb}
 use borrow.Author.Tests.{eqb-true}
 use Rattle.model.specs.Clock.{elapsed, fits}
 use Rattle.file.specs.Files.{decode}
-use Rattle.file.specs.Answers.{writes, written, writeNumber}
+use Rattle.file.specs.Answers.{readNumber, writes, written, writeNumber}
+use Rattle.file.specs.Bounds.{Between}
+use Rattle.file.specs.Numbers as Nu
+use Rattle.file.specs.declared.ReadAnswer.the-variants.{Read}
 use Rattle.file.specs.declared.WriteAnswer.{WriteAnswer}
 use Rattle.file.specs.declared.WriteAnswer.the-variants as Wr
 use Rattle.timing.specs.SlotLaws.{Each, or-elim}
@@ -21,12 +24,13 @@ use Rattle.machine.specs.declared.Turn.{Turn}
 use Rattle.machine.specs.declared.Turn.the-variants as T
 use Rattle.machine.specs.declared.Finishing.{Finishing}
 use Rattle.machine.specs.declared.Finishing.the-variants as F
-use Rattle.machine.specs.Answers.{Meaning, reactionMeans, turnMeans, finishingMeans}
+use Rattle.machine.specs.Answers.{Meaning}
 use Rattle.machine.specs.Calls as C
 use Rattle.machine.specs.Calls.{State}
 use Rattle.machine.specs.Leaves.{Leaves, tick-leaves, LeavesNext, next-leaves, LeavesFinish, finish-leaves}
 use Rattle.machine.specs.ClockLaws.{due-is}
 use Rattle.tables.specs.declared.Table.{Table}
+use Rattle.reading.specs.declared.Reading.{Reading}
 use Rattle.reading.specs.Readings.{readingOf}
 use Rattle.ecode.specs.Sound.{soundIn, bytesOf}
 use Rattle.emachine.specs.declared.Machine.{Machine}
@@ -38,6 +42,7 @@ use Rattle.prescribed.specs.declared.Compiled.{Compiled}
 use Rattle.prescribed.specs.declared.Compiled.the-variants as W
 use Rattle.prescribed.specs.Compiles.{Compiling, file, refused, compileOf}
 use Rattle.prescribed.specs.Answers.{answered, buffered}
+use Rattle.prescribed.specs.Numbers.{Listed, refusal-numbers}
 use Rattle.prescribed.specs.Acceptance as A
 use Rattle.prescribed.specs.Acceptance.{Answers}
 use Rattle.bridge.specs.LaterOnly as L
@@ -74,6 +79,18 @@ compile-refused text before number at after c = go (compileOf text (length befor
     go (refused k t) h p q =
         let a : refused k t ≡ refused number at = cc in
         (subst (Answers text (length before)) a h, q)
+
+-- no other refusal
+pub compile-numbers : (text before : List ℕ) (number at : ℕ) (after : List ℕ) → Compiles text before (W.Refused number at) after → Listed text number at
+compile-numbers text before number at after c = refusal-numbers text (length before) number at (sym (c .answers))
+
+pub read-numbers : (bytes : List ℕ) (r : Reading) → Reads bytes r → (r .answer ≡ Read) ⊎ Between 20 24 (readNumber (r .answer))
+read-numbers bytes r e = subst (λ (x : Reading). (x .answer ≡ Read) ⊎ Between 20 24 (readNumber (x .answer))) (sym e) (Nu.read-numbers bytes)
+
+pub write-numbers : (table : Table) (before : List ℕ) (answer : WriteAnswer) (after : List ℕ) → Writes table before answer after
+    → (answer ≡ Wr.Wrote (length (bytesOf table))) ⊎ ((writeNumber answer ≡ 30) ⊎ (writeNumber answer ≡ 14))
+write-numbers table before answer after w =
+    subst (λ (x : WriteAnswer). (x ≡ Wr.Wrote (length (bytesOf table))) ⊎ ((writeNumber x ≡ 30) ⊎ (writeNumber x ≡ 14))) (sym (w .answers)) (Nu.write-numbers (soundIn table) (bytesOf table) before)
 
 -- ---- numbers of a list
 

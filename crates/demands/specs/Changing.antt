@@ -1,9 +1,9 @@
 -- Demand 3: when a port of the code's machine changes, and to what, behind compile, read, start and any calls.
 use Prim.Native.Nat.{ℕ, _+_, _<_}
-use mathlib.Core.Path.{_≡_, refl, sym, _∙_, ap}
+use mathlib.Core.Path.{_≡_, sym, _∙_, ap}
 use mathlib.Core.Logic.{_≢_, _⊎_, inl, inr}
 use mathlib.Core.List.{List}
-use lib.ListN.{getD, length}
+use lib.ListN.{length}
 use Rattle.model.specs.Modules.{Module}
 use Rattle.timing.specs.Rules.{outputsOf}
 use Rattle.timing.specs.PortLaws.{outputCount, SensorPort, ActuatorPort, InputPort}

@@ -1,14 +1,14 @@
 -- Demand 3: what is counted. Instructions by the definition's steps; releases, terminations and tasks out.
 use Prim.Native.Nat.{ℕ, _+_}
 use native.Mathlib.Omega.{arith}
-use mathlib.Core.Path.{_≡_, refl, sym, _∙_, ap, ap₂, subst}
+use mathlib.Core.Path.{_≡_, refl, sym, _∙_, ap, ap₂}
 use mathlib.Core.Bool.{Bool, true, false, cond}
-use mathlib.Core.Option.{Option, none, some}
+use mathlib.Core.Option.{none, some}
 use mathlib.Core.List.{List, [], _∷_, map}
 use lib.ListN.{length}
 use Rattle.model.specs.Clock.{Instant, early, due, missed, judged, elapsed, fits}
 use Rattle.model.specs.Modules.{Module}
-use Rattle.timing.specs.Calls.{Reply, waits, reacted, refused, fell, given, taken, View, ask, replies}
+use Rattle.timing.specs.Calls.{Reply, reacted, View, ask, replies}
 use Rattle.timing.specs.Lates.{endingNext}
 use Rattle.timing.specs.Counts.{endedOut, ifReacted, releasesIn, endingsIn, count-law}
 use Rattle.timing.specs.Docks.{replyTo}
@@ -18,7 +18,7 @@ use Rattle.machine.specs.declared.Reaction.the-variants.{Obeyed, Idle, Refused,
 use Rattle.machine.specs.declared.Turn.the-variants as U
 use Rattle.machine.specs.declared.Finishing.the-variants as F
 use Rattle.machine.specs.Words.{countIn}
-use Rattle.machine.specs.Boards.{Board, boardOf}
+use Rattle.machine.specs.Boards.{Board}
 use Rattle.machine.specs.Instructions.{late, wild, astray, clash, Res, ok, bad, Halt, Tally}
 use Rattle.machine.specs.Store.{Store, reaction}
 use Rattle.machine.specs.Calls as C
@@ -26,10 +26,8 @@ use Rattle.machine.specs.Calls.{State, cameTo, sensed, byInstant}
 use Rattle.machine.specs.Starts.{fresh}
 use Rattle.emachine.specs.declared.Machine.{Machine}
 use Rattle.emachine.specs.declared.Ticked.{Ticked}
-use Rattle.emachine.specs.Machines.{boardIn, stateIn, machineOf}
-use Rattle.prescribed.specs.Tables.{tableOf}
+use Rattle.emachine.specs.Machines.{stateIn}
 use Rattle.bridge.specs.Boards.{board}
-use Rattle.bridge.specs.Docked.{asks}
 use Rattle.bridge.specs.Faithful as Fa
 use Rattle.bridge.specs.Promises.{DueNow}
 use Rattle.bridge.specs.CountKept.{out-counted}

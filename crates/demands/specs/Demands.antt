@@ -1,9 +1,9 @@
 -- The three demands over the code's contracts, one theorem for each sentence. Read Uses and Terms for the words; the proofs stand elsewhere and are cited.
 use Prim.Native.Nat.{ℕ, suc, _+_, _*_, _≤_, _<_}
-use mathlib.Core.Path.{_≡_, refl}
+use mathlib.Core.Path.{_≡_}
 use mathlib.Core.Logic.{_≢_, _⊎_}
 use mathlib.Core.Bool.{Bool, true, false, cond, _&&_, not}
-use mathlib.Core.Option.{Option, none, some}
+use mathlib.Core.Option.{none, some}
 use mathlib.Core.List.{List, _++_, map}
 use lib.ListN.{length, getD, set, take, drop}
 use Rattle.codec.specs.Codecs.{Bytes}
@@ -11,15 +11,16 @@ use Rattle.model.specs.Rooms.{portRoom}
 use Rattle.model.specs.Values.{holds, noGuard}
 use Rattle.model.specs.Clock.{elapsed, fits}
 use Rattle.model.specs.Modules.{place, copyTo}
-use Rattle.model.specs.Instructions.{Instr, nop, future, call, release, iff, jump, return, switch, updates, releases, terminates}
+use Rattle.model.specs.Instructions.{nop, future, call, release, iff, jump, return, switch, updates, releases, terminates}
 use Rattle.refusals.specs.Texts.{moduleOf}
-use Rattle.file.specs.Answers.{writeNumber}
+use Rattle.file.specs.Answers.{readNumber, writeNumber}
+use Rattle.file.specs.Bounds.{Between}
 use Rattle.file.specs.declared.ReadAnswer.the-variants.{Read}
 use Rattle.file.specs.declared.WriteAnswer.{WriteAnswer}
 use Rattle.file.specs.declared.WriteAnswer.the-variants.{Wrote}
 use Rattle.timing.specs.SlotLaws.{Each}
 use Rattle.timing.specs.Rules.{outputsOf}
-use Rattle.timing.specs.Calls.{View, ask, replies, readingTypes}
+use Rattle.timing.specs.Calls.{ask, replies, readingTypes}
 use Rattle.timing.specs.Lates.{endingNext, Prompt}
 use Rattle.timing.specs.Orders.{among, dues, Keeps}
 use Rattle.timing.specs.Causes.{Vary, Calm}
@@ -38,6 +39,7 @@ use Rattle.machine.specs.Starts.{fresh}
 use Rattle.tables.specs.declared.Table.{Table}
 use Rattle.layout.specs.Plain.{structOf}
 use Rattle.reading.specs.declared.Reading.{Reading}
+use Rattle.ecode.specs.Sound.{bytesOf}
 use Rattle.emachine.specs.declared.Machine.{Machine}
 use Rattle.emachine.specs.declared.Ticked.{Ticked}
 use Rattle.emachine.specs.Machines.{boardIn, stateIn, tickedOn}
@@ -47,6 +49,7 @@ use Rattle.prescribed.specs.declared.Compiled.{Compiled}
 use Rattle.prescribed.specs.declared.Compiled.the-variants as W
 use Rattle.prescribed.specs.Compiles.{refused, fileOf}
 use Rattle.prescribed.specs.Acceptance.{Answers, Accepts}
+use Rattle.prescribed.specs.Numbers.{Listed}
 use Rattle.bridge.specs.Promises.{DueNow}
 use Rattle.machine.specs.Numbers.{oneOf}
 use Rattle.machine.specs.Obeys as Op
@@ -83,7 +86,18 @@ start-defined = B.start-one
 pub call-defined : (m : Machine) (a : Ask) → One {A = Answer × Machine} (λ r. Serves m a (r .0) (r .1))
 call-defined = C.call-one
 
--- No other refusal or fault exists: start answers 30, 32, 40 to 43, or 0 for none; tick 31 to 33, 40 to 43; next 31; finish 31, 34, 35.
+-- No other refusal exists: compile refuses with one of 1 to 14 at a place in the text or at its end; read gives a table or one of 20 to 24; write the length of the file, 30 or 14.
+pub compile-numbers : (text before : List ℕ) (number at : ℕ) (after : List ℕ) → Compiles text before (W.Refused number at) after → Listed text number at
+compile-numbers = C.compile-numbers
+
+pub read-numbers : (bytes : List ℕ) (r : Reading) → Reads bytes r → (r .answer ≡ Read) ⊎ Between 20 24 (readNumber (r .answer))
+read-numbers = C.read-numbers
+
+pub write-numbers : (table : Table) (before : List ℕ) (answer : WriteAnswer) (after : List ℕ) → Writes table before answer after
+    → (answer ≡ Wrote (length (bytesOf table))) ⊎ ((writeNumber answer ≡ 30) ⊎ (writeNumber answer ≡ 14))
+write-numbers = C.write-numbers
+
+-- Nor any other refusal or fault of the machine: start answers 30, 32, 40 to 43, or 0 for none; tick 31 to 33, 40 to 43; next 31; finish 31, 34, 35.
 pub start-numbers : (table : Table) (count : ℕ) (types words : List ℕ) (r : Ticked) → Started table count types words r → oneOf startNumbers (number (ticking (r .answer))) ≡ true
 start-numbers = B.start-numbers
 
@@ -130,7 +144,7 @@ module _ (table : Table) (count : ℕ) (types words : List ℕ) (r : Ticked) (s 
   pub start-obeys : Readable table → fits (M.readingTypes (boardIn table)) types words ≡ true → r ≡ tickedOn table (M.reacted (boardIn table) (fresh (boardIn table) count) count words)
   start-obeys = B.start-obeys table count types words r s
 
--- Look shows the whole machine, stopped or not, and never refuses; the tasks out are counted from the word.
+-- Look shows the whole machine, stopped or not, and never refuses, so a call behind it is a call of the machine; the tasks out are counted from the word.
 pub look-shows : (m shown : Machine) → Looks m shown → shown ≡ m
 look-shows m shown looks = looks
 

@@ -2,7 +2,6 @@
 use Prim.Native.Nat.{ℕ}
 use native.Mathlib.Omega.{arith}
 use mathlib.Core.Path.{_≡_, refl, sym, _∙_, ap, ap₂, subst}
-use mathlib.Core.Logic.{_≢_}
 use mathlib.Core.Bool.{Bool, true, false, cond}
 use mathlib.Core.Option.{Option, none, some}
 use mathlib.Core.List.{List, [], _∷_, _++_, map}
@@ -12,26 +11,25 @@ use lib.Dec.{eqb}
 use borrow.Author.Tests.{eqb-true}
 use Rattle.model.specs.Modules.{Module}
 use Rattle.model.specs.Clock.{fits}
-use Rattle.refusals.specs.Texts.{moduleOf}
 use Rattle.file.specs.Files.{read, decode, sound}
 use Rattle.file.specs.declared.ReadAnswer.the-variants.{Read}
-use Rattle.timing.specs.Rules.{Standing, idle}
+use Rattle.timing.specs.Rules.{idle}
 use Rattle.timing.specs.Calls as R
-use Rattle.timing.specs.Calls.{reacted, View, ask, started, comes, replies}
+use Rattle.timing.specs.Calls.{reacted, View, replies}
 use Rattle.timing.specs.Accepted.{Accepted}
 use Rattle.timing.specs.PortsAfter.{Aimed}
 use Rattle.timing.specs.Docks.{replyTo, Dock}
-use Rattle.timing.specs.Histories.{shadow, stopOf}
+use Rattle.timing.specs.Histories.{stopOf}
 use Rattle.machine.specs.Asks.{Ask, tick, next, finish, Answer, ticking, turning, finishing}
 use Rattle.machine.specs.declared.Reaction.{Reaction}
 use Rattle.machine.specs.declared.Reaction.the-variants.{Obeyed, Idle, Refused, Late, Fault}
 use Rattle.machine.specs.declared.Turn.the-variants as T
 use Rattle.machine.specs.declared.Finishing.the-variants as F
-use Rattle.machine.specs.Boards.{Board, boardOf}
+use Rattle.machine.specs.Boards.{Board}
 use Rattle.machine.specs.Instructions as E
 use Rattle.machine.specs.Calls as C
 use Rattle.machine.specs.Calls.{State}
-use Rattle.machine.specs.Starts.{start, startOn, fresh, noMachine}
+use Rattle.machine.specs.Starts.{start, noMachine}
 use Rattle.calls.specs.declared.Standing.{Standing as Where}
 use Rattle.tables.specs.declared.Table.{Table}
 use Rattle.layout.specs.Plain.{structOf}
@@ -41,7 +39,7 @@ use Rattle.emachine.specs.declared.Machine.{Machine}
 use Rattle.emachine.specs.declared.Ticked.{Ticked}
 use Rattle.emachine.specs.declared.Handed.{Handed}
 use Rattle.emachine.specs.declared.Finished.{Finished}
-use Rattle.emachine.specs.Machines.{boardIn, stateIn, machineOf, tickedOn, handedOn, finishedOn}
+use Rattle.emachine.specs.Machines.{boardIn, machineOf, tickedOn, finishedOn}
 use Rattle.boards.specs.Agreement.{board-is}
 use Rattle.prescribed.specs.Tables.{tableOf}
 use Rattle.prescribed.specs.declared.Compiled.the-variants.{Written}
@@ -50,7 +48,7 @@ use Rattle.prescribed.specs.Answers.{answered, buffered}
 use Rattle.accepted.specs.Compiled.{compiled-accepted, compiled-aimed, compiled-sound, compiled-reads}
 use Rattle.bridge.specs.Boards.{board, board-readings}
 use Rattle.bridge.specs.Views.{stands}
-use Rattle.bridge.specs.Docked.{asks, dockOf, faultBy, stopBy}
+use Rattle.bridge.specs.Docked.{asks, faultBy, stopBy}
 use Rattle.bridge.specs.Faithful.{machineAnswers, machineLeaves, Started, begun, faithful}
 use Rattle.bridge.specs.Beside.{Beside, beside}
 use Rattle.demands.specs.Uses.{Serves, Runs, Launch, number, Refuses, moduleIn, first, rules}

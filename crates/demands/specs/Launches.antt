@@ -1,9 +1,8 @@
 -- Every accepted text can be launched, with all readings that fit, and every list of calls can be made.
 use Prim.Native.Nat.{ℕ}
 use native.Mathlib.Omega.{arith}
-use mathlib.Core.Path.{_≡_, refl, sym, _∙_, ap, subst}
-use mathlib.Core.Logic.{_≢_}
-use mathlib.Core.Bool.{Bool, true, false}
+use mathlib.Core.Path.{_≡_, refl, sym, _∙_, ap}
+use mathlib.Core.Bool.{true}
 use mathlib.Core.Option.{some}
 use mathlib.Core.List.{List, [], _∷_, _++_}
 use lib.ListN.{length, take}
@@ -11,12 +10,10 @@ use Rattle.model.specs.Clock.{fits}
 use Rattle.refusals.specs.Texts.{moduleOf}
 use Rattle.file.specs.Files.{decode}
 use Rattle.timing.specs.Calls as R
-use Rattle.timing.specs.Calls.{refused, reacted}
+use Rattle.timing.specs.Calls.{reacted}
 use Rattle.timing.specs.Docks.{replyTo}
 use Rattle.machine.specs.Asks.{Ask, Answer, ticking}
-use Rattle.machine.specs.declared.Reaction.the-variants.{Refused}
-use Rattle.machine.specs.Starts.{startOn, start}
-use Rattle.tables.specs.declared.Table.{Table}
+use Rattle.machine.specs.Starts.{startOn}
 use Rattle.reading.specs.declared.Reading.{Reading}
 use Rattle.reading.specs.Readings.{readingOf}
 use Rattle.ecode.specs.Sound.{soundIn}
@@ -27,11 +24,9 @@ use Rattle.starting.specs.Starting as S
 use Rattle.starting.specs.Starting.{Started}
 use Rattle.prescribed.specs.Tables.{tableOf}
 use Rattle.prescribed.specs.declared.Compiled.the-variants.{Written}
-use Rattle.prescribed.specs.Compiles.{fileOf, compileOf}
-use Rattle.prescribed.specs.Answers.{answered}
 use Rattle.accepted.specs.Compiled.{compiled-accepted, compiled-sound}
 use Rattle.bridge.specs.Faithful as Fa
-use Rattle.demands.specs.Uses.{Compiles, Serves, Runs, Midway, Launch, Launched}
+use Rattle.demands.specs.Uses.{Compiles, Runs, Midway, Launch, Launched}
 use Rattle.demands.specs.Joins as J
 use Rattle.demands.specs.Calling.{call-one}
 use Rattle.demands.specs.Filing.{reads-back}

@@ -1,10 +1,8 @@
 -- The order in which tasks are handed out and finished between due ticks does not show (document 02, R-13), for the code's machine.
 use Prim.Native.Nat.{ℕ}
 use mathlib.Core.Path.{_≡_, refl, sym, _∙_, ap, ap₂, subst}
-use mathlib.Core.Option.{Option}
 use mathlib.Core.List.{List, [], _∷_}
 use Rattle.model.specs.Modules.{Module}
-use Rattle.timing.specs.Calls.{Reply}
 use Rattle.timing.specs.Orders.{dues, Keeps}
 use Rattle.timing.specs.Docks.{replyTo}
 use Rattle.machine.specs.Asks.{Ask, Answer}

@@ -1,29 +1,25 @@
 -- A task is owed, by calls and answers, exactly where the rules say that it is out and not finished: in time is `Prompt`.
 use Prim.Native.Nat.{ℕ, zero, suc, _<_}
 use native.Mathlib.Omega.{arith}
-use native.Mathlib.Decide.{ℕ-discrete}
 use mathlib.Core.Path.{_≡_, refl, sym, _∙_, ap, ap₂, subst}
 use mathlib.Core.Logic.{_≢_}
 use mathlib.Core.Bool.{Bool, true, false, cond, _&&_, _||_, not}
 use mathlib.Core.Option.{Option, none, some}
-use mathlib.Core.List.{List, [], _∷_, _++_, map}
+use mathlib.Core.List.{List, [], _∷_, map}
 use lib.ListN.{length, getD, set}
 use lib.Seq.{getD-set-same, getD-set-other}
 use lib.Dec.{eqb}
 use borrow.Author.Tests.{eqb-true, eqb-false}
 use Rattle.model.specs.Modules.{Module, Act, Call}
 use Rattle.timing.specs.SlotLaws.{Each}
-use Rattle.timing.specs.Rules.{Standing, idle, ready, running, done, Store, well, Place, sensed, terminations, releases, releasedBy}
-use Rattle.timing.specs.Calls.{Reply, waits, reacted, refused, fell, given, taken, View, ask, started, beginning, replies, comes}
+use Rattle.timing.specs.Rules.{Standing, idle, running, done}
+use Rattle.timing.specs.Calls.{Reply, waits, reacted, refused, fell, given, taken, View, ask, started, replies, comes}
 use Rattle.timing.specs.Accepted.{Accepted}
 use Rattle.timing.specs.Orders.{among}
-use Rattle.timing.specs.Standings.{split, terminated, beginning-idle}
-use Rattle.timing.specs.Ticks.{Due, Means, each-means, meaning, nextTime}
+use Rattle.timing.specs.Ticks.{Due, Means, each-means}
 use Rattle.timing.specs.Lates.{unfinished, firstLate, endingNext, PromptAt, Prompt}
-use Rattle.timing.specs.Changes.{Ending, not-out, handed-over, ending}
-use Rattle.timing.specs.Released.{readied, beginningThere, updatedAt, releases-ready, released-only, start-came}
-use Rattle.timing.specs.Held.{Held, start-held, held-call, next-held}
-use Rattle.timing.specs.Counts.{terms-count, begun-known, same-many, start-many}
+use Rattle.timing.specs.Held.{Held, held-call}
+use Rattle.timing.specs.Counts.{same-many}
 use Rattle.timing.specs.Docks.{replyTo}
 use Rattle.machine.specs.Asks.{Ask, tick, next, finish, Answer, ticking, turning, finishing}
 use Rattle.machine.specs.declared.Reaction.the-variants.{Obeyed, Idle, Refused, Late, Fault}

@@ -1,46 +1,39 @@
 -- Demand 3: what bridge proves of the definitions, carried to the code's machine behind compile, read, start and any calls.
 use Prim.Native.Nat.{ℕ, _≤_, _<_}
-use native.Mathlib.Omega.{arith}
 use mathlib.Core.Path.{_≡_, refl, sym, _∙_, ap, ap₂, subst}
-use mathlib.Core.Logic.{_≢_, _⊎_, inl, inr}
-use mathlib.Core.Bool.{Bool, true, false, cond, _&&_, not}
+use mathlib.Core.Logic.{_⊎_, inl, inr}
+use mathlib.Core.Bool.{Bool, true, false, _&&_, not}
 use mathlib.Core.Option.{Option, none, some}
 use mathlib.Core.List.{List, [], _∷_, map}
-use lib.ListN.{length, getD, take}
+use lib.ListN.{getD, take}
 use Rattle.model.specs.Clock.{elapsed, fits}
 use Rattle.model.specs.Modules.{Module}
 use Rattle.timing.specs.SlotLaws.{Each}
-use Rattle.timing.specs.Rules.{Standing, idle, ready, running, done, outputsOf}
-use Rattle.timing.specs.Calls.{Reply, reacted, View, Said, ask, started, replies, readingTypes}
+use Rattle.timing.specs.Rules.{Standing, idle}
+use Rattle.timing.specs.Calls.{Reply, reacted, View, Said, ask, replies, readingTypes}
 use Rattle.timing.specs.Accepted.{Accepted, ports}
 use Rattle.timing.specs.Lates.{firstLate, endingNext, in-time-reacts, Prompt}
 use Rattle.timing.specs.Orders.{among}
-use Rattle.timing.specs.PortLaws.{outputCount}
 use Rattle.timing.specs.Held.{start-held}
 use Rattle.timing.specs.Counts.{start-many}
 use Rattle.timing.specs.Causes.{Vary, Calm, no-trace}
 use Rattle.timing.specs.Docks.{Dock, replyTo}
-use Rattle.machine.specs.Asks.{Ask, tick, next, finish, Answer, ticking, turning, finishing}
-use Rattle.machine.specs.declared.Reaction.{Reaction}
-use Rattle.machine.specs.declared.Reaction.the-variants.{Obeyed, Idle, Refused, Late, Fault}
-use Rattle.machine.specs.declared.Turn.the-variants as T
-use Rattle.machine.specs.declared.Finishing.the-variants as F
+use Rattle.machine.specs.Asks.{Ask, tick, Answer, ticking}
+use Rattle.machine.specs.declared.Reaction.the-variants.{Obeyed, Late, Fault}
 use Rattle.machine.specs.Answers.{Meaning, meaning}
 use Rattle.machine.specs.Words.{has}
 use Rattle.machine.specs.Calls as C
-use Rattle.machine.specs.Calls.{State, stoppedBy}
+use Rattle.machine.specs.Calls.{State}
 use Rattle.emachine.specs.declared.Machine.{Machine}
 use Rattle.emachine.specs.declared.Ticked.{Ticked}
 use Rattle.emachine.specs.Machines.{stateIn, machineOf}
-use Rattle.prescribed.specs.Tables.{tableOf}
 use Rattle.bridge.specs.Views.{standOf, rowOf, Fitting, stands}
 use Rattle.bridge.specs.Docked.{asks, dockOf, Held}
 use Rattle.bridge.specs.Faithful as Fa
-use Rattle.bridge.specs.Faithful.{machineAnswers, machineLeaves, begun}
+use Rattle.bridge.specs.Faithful.{machineAnswers, begun}
 use Rattle.bridge.specs.Beside.{Beside, one-call, all-calls, start-beside}
 use Rattle.bridge.specs.Promises as P
 use Rattle.bridge.specs.Promises.{DueNow, standingIn, tasks-same, ports-same, Unfaulted}
-use Rattle.bridge.specs.PortsKept as K
 use Rattle.bridge.specs.ReleasesKept.{waits, begins, machine-newly}
 use Rattle.demands.specs.Uses.{Serves, Runs, Launch, moduleIn, first, rules, means, number, refusal, Faults, stopped}
 use Rattle.demands.specs.Terms.{Same, Alike, InTime, owedFirst, owedAfter, firstOwed}

@@ -2,8 +2,7 @@
 -- Definitions only; the words of the timing rules stand in Terms, the theorems in Demands.
 use Prim.Native.Nat.{ℕ, _+_, _≤_}
 use mathlib.Core.Path.{_≡_}
-use mathlib.Core.Logic.{_≢_}
-use mathlib.Core.Bool.{Bool, true, false}
+use mathlib.Core.Bool.{Bool}
 use mathlib.Core.Option.{Option, none, some}
 use mathlib.Core.List.{List, [], _∷_, _++_}
 use lib.ListN.{length, take}
@@ -17,7 +16,6 @@ use Rattle.file.specs.declared.WriteAnswer.{WriteAnswer}
 use Rattle.timing.specs.Calls.{View, started, comes}
 pub use Rattle.machine.specs.Asks.{means}
 use Rattle.machine.specs.Asks.{Ask, tick, next, finish, Answer, ticking, turning, finishing}
-use Rattle.machine.specs.declared.Reaction.the-variants.{Refused}
 use Rattle.machine.specs.Answers.{Meaning, meaning}
 use Rattle.machine.specs.Boards.{boardOf}
 use Rattle.machine.specs.Instructions.{Tally}
