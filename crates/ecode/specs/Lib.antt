@@ -1,3 +1,4 @@
 pub mod Filed
 pub mod Sound
 pub mod Theorems
+pub mod Numbers

@@ -8,9 +8,10 @@ ghost use mathlib.Core.List.{_++_};
 ghost use Prim.Native.Nat.{_≤_};
 ghost use lib.ListN.{length, drop};
 ghost use Rattle.file.specs.Files.{decode};
-ghost use Rattle.file.specs.Answers.{writes, written as writtenTo};
-ghost use Rattle.reading.specs.Readings.{readingOf};
+ghost use Rattle.file.specs.Answers.{readNumber, writes, written as writtenTo, writeNumber};
+ghost use Rattle.reading.specs.Readings.{readingOf, numberRead};
 ghost use Rattle.ecode.specs.Sound.{bytesOf, backIn, soundIn};
+ghost use Rattle.ecode.specs.Numbers.{numberWritten};
 ghost use Rattle.ecode.specs.Theorems.{Tells};
 use file::ReadAnswer;
 use file::WriteAnswer;
@@ -21,7 +22,8 @@ pub mod arrays;
 
 // The table that some bytes hold, or the number of the refusal.
 pub fn read(bytes: &[u8]) -> Reading
-    ensures { λ r. ⌜ r ≡ readingOf (decode (now (bytes .entry))) ⌝ }
+    ensures answer { λ r. ⌜ r ≡ readingOf (decode (now (bytes .entry))) ⌝ }
+    ensures number { λ r. ⌜ readNumber (r .answer) ≡ numberRead (decode (now (bytes .entry))) ⌝ }
 {
     reading::read(bytes)
 }
@@ -101,7 +103,8 @@ fn write_by(t: Table, scratch: &mut [u8], buffer: &mut [u8]) -> WriteAnswer
 
 // The file of a table, to the front of a buffer.
 pub fn write(t: Table, buffer: &mut [u8]) -> WriteAnswer
-    ensures { λ r. ⌜ (r ≡ writes (soundIn t) (bytesOf t) (now (buffer .entry))) × (now (buffer .exit) ≡ writtenTo (soundIn t) (bytesOf t) (now (buffer .entry))) ⌝ }
+    ensures answer { λ r. ⌜ (r ≡ writes (soundIn t) (bytesOf t) (now (buffer .entry))) × (now (buffer .exit) ≡ writtenTo (soundIn t) (bytesOf t) (now (buffer .entry))) ⌝ }
+    ensures number { λ r. ⌜ writeNumber r ≡ numberWritten (soundIn t) (bytesOf t) (now (buffer .entry)) ⌝ }
 {
     let mut scratch = [0u8; 71364];
     write_by(t, &mut scratch, buffer)

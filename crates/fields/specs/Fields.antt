@@ -22,6 +22,7 @@ Reads s c bad next r = Takes s c kept (at bad next 0) (at (r .bad) (r .next) (r 
 pub record Checked (number : Number) (fine : Bool) (refusal : ℕ) (r : Number) : Type 0 where
   pub is : (s : List ℕ) → reached s (at (r .bad) (r .next) (r .value)) ≡ sifted fine refusal (reached s (at (number .bad) (number .next) (number .value)))
   pub value : r .value ≡ cond fine (number .value) 0
+  pub place : r .bad ≡ 0 → (number .bad ≡ 0) × (r .next ≡ number .next)
 
 -- a task's count of inputs, or of outputs, where the tasks before have as many as are used
 abbrev pub fitsShare : ℕ → ℕ → Bool

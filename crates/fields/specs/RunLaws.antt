@@ -16,14 +16,14 @@ use Rattle.fields.specs.TakingLaws.{reached-on, reached-no, takes-out, t
 
 module _ {A S U : Type 0} {s : List ℕ} {c : U → Codec A} {with : U → A → U} {used : S → U} {store : ℕ → A → S → S} where
   pub left-begin : {n : ℕ} {p : Point S} → Left s c with used store n 0 p p
-  left-begin = record { is = refl }
+  left-begin = record { is = refl; inside = λ h. h }
 
   pub left-more : {n k bad next : ℕ} {l : S} {p r : Point S} → ((a : A) → used (store k a l) ≡ with (used l) a) → k < n → Left s c with used store n k p (at bad next l)
       → Takes s (c (used l)) (store k) (at bad next l) r → Left s c with used store n (k + 1) p r
   unfolding ahead taken reached fill
   left-more {n} {k} {bad} {next} {l} {p} {r} keep h w t =
       let j : n - k ≡ suc (n - (k + 1)) = omega arith in
-      record { is = w .is ∙ ap (λ (m : ℕ). ahead-by m (reached s (at bad next l))) j ∙ go bad ∙ ap (ahead c with used store n (k + 1)) (sym (t .is)) }
+      record { is = w .is ∙ ap (λ (m : ℕ). ahead-by m (reached s (at bad next l))) j ∙ go bad ∙ ap (ahead c with used store n (k + 1)) (sym (t .is)); inside = λ i. t .inside }
     where
       ahead-by : ℕ → Reading S → Reading S
       ahead-by m x = andThen x (λ l bs. andThen (runGet c with m (used l) bs) (λ xs rest. got (fill store k xs l) rest))
@@ -47,7 +47,7 @@ module _ {A S U : Type 0} {s : List ℕ} {c : U → Codec A} {with : U → A →
   unfolding ahead fill
   left-end {n} {k} {p} {q} h w =
       let j : n - k ≡ 0 = omega arith in
-      record { is = sym (w .is ∙ ap (λ (m : ℕ). andThen (reached s q) (λ l bs. andThen (runGet c with m (used l) bs) (λ xs rest. got (fill store k xs l) rest))) j ∙ go (reached s q)) }
+      record { is = sym (w .is ∙ ap (λ (m : ℕ). andThen (reached s q) (λ l bs. andThen (runGet c with m (used l) bs) (λ xs rest. got (fill store k xs l) rest))) j ∙ go (reached s q)); inside = w .inside }
     where
       go : (x : Reading S) → andThen x (λ l bs. got l bs) ≡ x
       go (got l bs) = refl
@@ -66,7 +66,7 @@ module _ {A S U : Type 0} {s : List ℕ} {c : U → Codec A} {with : U → A →
   pub takes-running : used l ≡ u → Takes s count kept (at bad next 0) (at bad′ next′ n) → Runs s c with used store n (at bad′ next′ l) r
       → Takes s (running c with count u) (fill store 0) (at bad next l) r
   unfolding taken ahead reached
-  takes-running same t w = record { is = w .is ∙ go bad bad′ (t .is) }
+  takes-running same t w = record { is = w .is ∙ go bad bad′ (t .is); inside = w .inside (t .inside) }
     where
       zero-less : n - 0 ≡ n
       zero-less = omega arith
@@ -147,7 +147,7 @@ module _ {A S : Type 0} {s : List ℕ} (first : Codec ℕ) (c : Codec A) {store 
   pub takes-tag : {B : Type 0} (rest : Codec B) (of : B → A) {r : Point S} → ((bs z : List ℕ) → first .get bs ≡ got v z → c .get bs ≡ andThen (rest .get z) (λ x y. got (of x) y))
       → Takes s first kept (at bad next 0) (at bad′ next′ v) → Takes s rest (λ x. store (of x)) (at bad′ next′ l) r → Takes s c store (at bad next l) r
   unfolding taken
-  takes-tag {B} rest of {r} law t u = record { is = u .is ∙ go bad′ t }
+  takes-tag {B} rest of {r} law t u = record { is = u .is ∙ go bad′ t; inside = u .inside }
     where
       in-rest : (x : Reading B) → andThen x (λ b z. got (store (of b) l) z) ≡ andThen (andThen x (λ b z. got (of b) z)) (λ a z. got (store a l) z)
       in-rest (got b z) = refl

@@ -5,7 +5,7 @@ use mathlib.Core.Path.{_≡_, refl, sym, ap, _∙_}
 use mathlib.Core.Bool.{Bool, true, false, cond}
 use mathlib.Core.List.{List}
 use mathlib.Core.Logic.{_⊎_, inl, inr}
-use lib.ListN.{drop}
+use lib.ListN.{length, drop, length-drop}
 use Rattle.codec.specs.Readings.{Reading, got, no, andThen}
 use Rattle.codec.specs.Codecs.{Codec}
 use Rattle.codec.specs.Sequences.{dep, depGet}
@@ -39,23 +39,35 @@ module _ {A S : Type 0} {s : List ℕ} {c : Codec A} {store : A → S → S} {l 
   -- behind a refusal
   pub takes-out : {bad next next′ : ℕ} {l′ : S} → (bad ≡ 0 → ⊥) → Takes s c store (at bad next l) (at bad next′ l′)
   unfolding taken
-  takes-out {bad} {next} {next′} {l′} h = record { is = rw (reached-no s bad next l h, reached-no s bad next′ l′ h) refl }
+  takes-out {bad} {next} {next′} {l′} h = record { is = rw (reached-no s bad next l h, reached-no s bad next′ l′ h) refl; inside = λ z. absurd (h z) }
 
   -- the part is refused
   pub takes-no : {bad next e next′ : ℕ} {l′ : S} → bad ≡ 0 → c .get (drop next s) ≡ no (suc e) → Takes s c store (at bad next l) (at (suc e) next′ l′)
   unfolding taken reached
-  takes-no {bad} {next} h p = record { is = rw (reached-on s bad next l h, p) refl }
+  takes-no {bad} {next} h p = record { is = rw (reached-on s bad next l h, p) refl; inside = λ z. absurd (omega arith) }
 
   -- the part is there
-  pub takes-got : {bad next next′ : ℕ} {l′ : S} (a : A) → bad ≡ 0 → c .get (drop next s) ≡ got a (drop next′ s) → l′ ≡ store a l
+  pub takes-got : {bad next next′ : ℕ} {l′ : S} (a : A) → bad ≡ 0 → c .get (drop next s) ≡ got a (drop next′ s) → l′ ≡ store a l → next′ ≤ length s
       → Takes s c store (at bad next l) (at 0 next′ l′)
   unfolding taken reached
-  takes-got {bad} {next} a h p e = record { is = rw (reached-on s bad next l h, p, e) refl }
+  takes-got {bad} {next} a h p e i = record { is = rw (reached-on s bad next l h, p, e) refl; inside = λ z. i }
 
   -- the part is refused, with a number that is not 0
   pub takes-refused : {bad next e next′ : ℕ} {l′ : S} → bad ≡ 0 → c .get (drop next s) ≡ no e → (e ≡ 0 → ⊥) → Takes s c store (at bad next l) (at e next′ l′)
   unfolding taken
-  takes-refused {bad} {next} {e} {next′} {l′} h p n = record { is = rw (reached-on s bad next l h, reached-no s e next′ l′ n, p) refl }
+  takes-refused {bad} {next} {e} {next′} {l′} h p n = record { is = rw (reached-on s bad next l h, reached-no s e next′ l′ n, p) refl; inside = λ z. absurd (n z) }
+
+-- the next place is settled where there is no refusal: no second one fits
+pub one-place : {A S : Type 0} {s : List ℕ} {c : Codec A} {store : A → S → S} {p : Point S} {next next′ : ℕ} {l l′ : S}
+    → Takes s c store p (at 0 next l) → Takes s c store p (at 0 next′ l′) → next ≡ next′
+unfolding reached
+one-place {s = s} {next = next} {next′} {l} {l′} t u =
+    let e : got l (drop next s) ≡ got l′ (drop next′ s) = t .is ∙ sym (u .is) in
+    let d : drop next s ≡ drop next′ s = cc in
+    let m : length (drop next s) ≡ length (drop next′ s) = ap (λ (r : List ℕ). length r) d in
+    let i = t .inside refl in
+    let j = u .inside refl in
+    omega (arith, length-drop next s, length-drop next′ s)
 
 -- what a number that was read says of the bytes
 module _ {s : List ℕ} {c : Codec ℕ} {bad next bad′ next′ v : ℕ} where
@@ -89,7 +101,7 @@ module _ {s : List ℕ} {c : Codec ℕ} {bad next bad′ next′ v : ℕ} where
 -- the same part, put in under another name
 pub takes-as : {A S : Type 0} {s : List ℕ} {c : Codec A} {f g : A → S → S} {p q : Point S} → ((a : A) (l : S) → f a l ≡ g a l) → Takes s c f p q → Takes s c g p q
 unfolding taken
-takes-as {A} {S} {s} {c} {f} {g} {p} e t = record { is = t .is ∙ go (reached s p) }
+takes-as {A} {S} {s} {c} {f} {g} {p} e t = record { is = t .is ∙ go (reached s p); inside = t .inside }
   where
     in-part : (l : S) (r : Reading A) → andThen r (λ a rest. got (f a l) rest) ≡ andThen r (λ a rest. got (g a l) rest)
     in-part l (got a rest) = ap (λ (x : S). got x rest) (e a l)
@@ -102,7 +114,7 @@ takes-as {A} {S} {s} {c} {f} {g} {p} e t = record { is = t .is ∙ go (reached s
 -- a codec that reads the same
 pub takes-like : {A S : Type 0} {s : List ℕ} {c d : Codec A} {f : A → S → S} {p q : Point S} → ((bs : List ℕ) → c .get bs ≡ d .get bs) → Takes s c f p q → Takes s d f p q
 unfolding taken
-takes-like {A} {S} {s} {c} {d} {f} {p} e t = record { is = t .is ∙ go (reached s p) }
+takes-like {A} {S} {s} {c} {d} {f} {p} e t = record { is = t .is ∙ go (reached s p); inside = t .inside }
   where
     go : (m : Reading S) → taken c f m ≡ taken d f m
     go (got l bs) = ap (λ (r : Reading A). andThen r (λ a rest. got (f a l) rest)) (e bs)
@@ -114,7 +126,7 @@ module _ {A X S : Type 0} {s : List ℕ} {c : Codec A} {part : A → X → X} {s
       → Takes s c store (at bad next l) (at bad′ next′ k)
   unfolding taken reached
   takes-in f same e t =
-      record { is = ap (λ (z : S). reached s (at bad′ next′ z)) e ∙ reached-changed f s bad′ next′ y ∙ ap (changed f) (t .is) ∙ go bad }
+      record { is = ap (λ (z : S). reached s (at bad′ next′ z)) e ∙ reached-changed f s bad′ next′ y ∙ ap (changed f) (t .is) ∙ go bad; inside = t .inside }
     where
       in-part : (r : Reading A) → changed f (andThen r (λ a rest. got (part a x) rest)) ≡ andThen r (λ a rest. got (store a l) rest)
       in-part (got a rest) = ap (λ (z : S). got z rest) (sym (same a))
@@ -151,7 +163,7 @@ module _ {A X S : Type 0} {s : List ℕ} {c : Codec A} {part : A → X → X} {s
       → Takes s c part (at bad next x) (at bad′ next′ y) → Takes s c store (at bad next l) (at bad′ next′ k)
   unfolding taken reached
   takes-in-read f same e t =
-      record { is = ap (λ (z : S). reached s (at bad′ next′ z)) e ∙ reached-changed f s bad′ next′ y ∙ ap (changed f) (t .is) ∙ go bad same }
+      record { is = ap (λ (z : S). reached s (at bad′ next′ z)) e ∙ reached-changed f s bad′ next′ y ∙ ap (changed f) (t .is) ∙ go bad same; inside = t .inside }
     where
       in-part : (r : Reading A) → ((a : A) (rest : List ℕ) → r ≡ got a rest → store a l ≡ f (part a x)) → changed f (andThen r (λ a rest. got (part a x) rest)) ≡ andThen r (λ a rest. got (store a l) rest)
       in-part (got a rest) h = ap (λ (z : S). got z rest) (sym (h a rest refl))
@@ -170,7 +182,7 @@ joint a b = (a, b)
 module _ {A B S : Type 0} {s : List ℕ} {c : Codec A} {d : Codec B} {f : A → S → S} {g : B → S → S} {p q r : Point S} where
   pub takes-both : Takes s c f p q → Takes s d g q r → Takes s (dep c (λ a. B) (λ a. d)) (λ x l. g (x .1) (f (x .0) l)) p r
   unfolding taken dep depGet
-  takes-both t u = record { is = u .is ∙ ap (taken d g) (t .is) ∙ go (reached s p) }
+  takes-both t u = record { is = u .is ∙ ap (taken d g) (t .is) ∙ go (reached s p); inside = u .inside }
     where
       in-second : (a : A) (l : S) (r : Reading B)
           → andThen r (λ b rest. got (g b (f a l)) rest) ≡ andThen (andThen r (λ b rest. got (joint {P = λ a. B} a b) rest)) (λ x rest. got (g (x .1) (f (x .0) l)) rest)
@@ -192,7 +204,7 @@ module _ {S : Type 0} {s : List ℕ} (c : Codec ℕ) (P : ℕ → Type 0) (d : (
   pub takes-by : {store : (v : ℕ) × P v → S → S} {g : P v → S → S} → ((b : P v) → store (v, b) l ≡ g b l) → Takes s c kept (at bad next 0) (at bad′ next′ v)
       → Takes s (d v) g (at bad′ next′ l) r → Takes s (dep c P d) store (at bad next l) r
   unfolding taken reached dep depGet
-  takes-by {store} {g} same t u = record { is = u .is ∙ go bad bad′ (t .is) }
+  takes-by {store} {g} same t u = record { is = u .is ∙ go bad bad′ (t .is); inside = u .inside }
     where
       in-second : (r : Reading (P v)) → andThen r (λ b rest. got (g b l) rest) ≡ andThen (andThen r (λ b rest. got (joint {P = P} v b) rest)) (λ x rest. got (store x l) rest)
       in-second (got b rest) = ap (λ (z : S). got z rest) (sym (same b))
@@ -221,7 +233,7 @@ module _ {A B S : Type 0} {s : List ℕ} (c : Codec A) (to : B → A) (from : A 
     {store : B → S → S} {p q : Point S} where
   pub takes-shape : Takes s c (λ a. store (from a)) p q → Takes s (shape c to from one two) store p q
   unfolding taken
-  takes-shape t = record { is = t .is ∙ go (reached s p) }
+  takes-shape t = record { is = t .is ∙ go (reached s p); inside = t .inside }
     where
       in-part : (l : S) (r : Reading A) → andThen r (λ a rest. got (store (from a) l) rest) ≡ andThen (andThen r (λ a rest. got (from a) rest)) (λ b rest. got (store b l) rest)
       in-part l (got a rest) = refl
@@ -235,11 +247,11 @@ module _ {A B S : Type 0} {s : List ℕ} (c : Codec A) (to : B → A) (from : A 
 unfoldable pub sifted : Bool → ℕ → Reading ℕ → Reading ℕ
 sifted fine e m = andThen m (λ v rest. cond fine (got v rest) (no e))
 
-module _ {s : List ℕ} (c : Codec ℕ) (e : ℕ) (test : ℕ → Bool) {bad next bad′ next′ v : ℕ} {q : Point ℕ} where
-  pub takes-check : (fine : Bool) → fine ≡ test v → Takes s c kept (at bad next 0) (at bad′ next′ v) → reached s q ≡ sifted fine e (reached s (at bad′ next′ v))
-      → Takes s (check c e test) kept (at bad next 0) q
+module _ {s : List ℕ} (c : Codec ℕ) (e : ℕ) (test : ℕ → Bool) {bad next bad′ next′ v bad″ next″ w : ℕ} where
+  pub takes-check : (fine : Bool) → fine ≡ test v → Takes s c kept (at bad next 0) (at bad′ next′ v) → reached s (at bad″ next″ w) ≡ sifted fine e (reached s (at bad′ next′ v))
+      → (bad″ ≡ 0 → (bad′ ≡ 0) × (next″ ≡ next′)) → Takes s (check c e test) kept (at bad next 0) (at bad″ next″ w)
   unfolding taken reached sifted
-  takes-check fine f t u = record { is = u ∙ go bad bad′ (t .is) }
+  takes-check fine f t u i = record { is = u ∙ go bad bad′ (t .is); inside = λ z. rw (i z .1) (t .inside (i z .0)) }
     where
       by-test : (fine : Bool) (bs rest : List ℕ) → c .get bs ≡ got v rest → fine ≡ test v → cond fine (got v rest) (no e) ≡ andThen (check c e test .get bs) (λ a rest. got a rest)
       by-test true bs rest p q = rw (check-got c e test p (sym q)) refl

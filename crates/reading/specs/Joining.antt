@@ -19,7 +19,7 @@ module _ {A B C D S : Type 0} {s : List ℕ} (a : Codec A) (b : Codec B) (c : Co
   pub takes-behind : Takes s (dep a (λ x. B × C) (λ x. dep b (λ y. C) (λ y. c))) f p q → Takes s d g q r
       → Takes s (dep a (λ x. B × (C × D)) (λ x. dep b (λ y. C × D) (λ y. dep c (λ z. D) (λ z. d)))) (λ x l. g (x .1 .1 .1) (f (x .0, (x .1 .0, x .1 .1 .0)) l)) p r
   unfolding taken dep depGet
-  takes-behind t u = record { is = u .is ∙ ap (taken d g) (t .is) ∙ go (reached s p) }
+  takes-behind t u = record { is = u .is ∙ ap (taken d g) (t .is) ∙ go (reached s p); inside = u .inside }
     where
       store : A × (B × (C × D)) → S → S
       store x l = g (x .1 .1 .1) (f (x .0, (x .1 .0, x .1 .1 .0)) l)

@@ -6,7 +6,8 @@ ghost use lib.ListN.{drop};
 ghost use Rattle.file.specs.Files.{refused as refusedWith, judged as judgedOf, versioned as versionedOf, decode, table as tableOf};
 ghost use Rattle.layout.specs.Plain.{blank as blankTable};
 ghost use Rattle.referring.specs.Rows.{goodIn};
-ghost use Rattle.reading.specs.Readings.{readingOf};
+ghost use Rattle.file.specs.Answers.{readNumber};
+ghost use Rattle.reading.specs.Readings.{readingOf, numberRead};
 use file::ReadAnswer;
 use tables::Table;
 
@@ -120,7 +121,8 @@ fn versioned(s: &[u8], next: usize) -> Reading
 
 // The table that some bytes hold, or the number of the refusal.
 pub fn read(bytes: &[u8]) -> Reading
-    ensures { λ r. ⌜ r ≡ readingOf (decode (now (bytes .entry))) ⌝ }
+    ensures answer { λ r. ⌜ r ≡ readingOf (decode (now (bytes .entry))) ⌝ }
+    ensures number { λ r. ⌜ readNumber (r .answer) ≡ numberRead (decode (now (bytes .entry))) ⌝ }
 {
     let size = fields::quad(bytes, 0, 0);
     if size.bad != 0 {

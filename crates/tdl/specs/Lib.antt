@@ -1,3 +1,4 @@
+pub mod Numbers
 pub mod Stages
 pub mod Writings
 pub mod NoSecond

@@ -21,11 +21,16 @@ use Rattle.prescribed.specs.declared.Compiled.{Compiled}
 use Rattle.prescribed.specs.Acceptance.{Readable, free}
 use Rattle.prescribed.specs.Compiles.{Compiling, refused, fileOf, inRoom, compileOf}
 use Rattle.prescribed.specs.Answers.{answered, buffered}
+use Rattle.tdl.specs.Numbers.{numbersIn, numbersOf, numbered}
 
 -- the right answer for a text and a buffer, and what the buffer then holds
 pub record Compiles (text before : List ℕ) (answer : Compiled) (after : List ℕ) : Type 0 where
   pub tells : answer ≡ answered (compileOf text (length before))
   pub leaves : after ≡ buffered before (compileOf text (length before))
+  pub numbers : numbersIn answer ≡ numbersOf (compileOf text (length before))
+
+pub answers : {text before after : List ℕ} {answer : Compiled} → answer ≡ answered (compileOf text (length before)) → after ≡ buffered before (compileOf text (length before)) → Compiles text before answer after
+answers {text} {before} tells leaves = record { tells = tells; leaves = leaves; numbers = ap numbersIn tells ∙ numbered (compileOf text (length before)) }
 
 -- a text that breaks no rule, its names in rows, and their index
 pub record Unbroken (text names : List ℕ) (rows : ℕ) : Type 0 where
@@ -57,7 +62,7 @@ names-long {s} j = rw (j .table) (by (verdictOf s))
     by (No number at) = empty-long
 
 pub compiles : {text before : List ℕ} {c : Compiling} → compileOf text (length before) ≡ c → Compiles text before (answered c) (buffered before c)
-compiles {before = before} e = record { tells = ap answered (sym e); leaves = ap (buffered before) (sym e) }
+compiles {before = before} e = answers (ap answered (sym e)) (ap (buffered before) (sym e))
 
 module _ (text : List ℕ) (room : ℕ) where
   pub long : textRoom < length text → compileOf text room ≡ refused 1 0

@@ -38,7 +38,7 @@ use Rattle.build.specs.Tables.{blankSheet, tableIn}
 use Rattle.build.specs.Accepting.{uncoded, plans-right, table-right}
 use Rattle.coding.specs.Codings.{withCode, Coded}
 use Rattle.coding.specs.Whole.{coded-right}
-use Rattle.tdl.specs.Stages.{Compiles, Unbroken, compiles, overfull, in-room}
+use Rattle.tdl.specs.Stages.{Compiles, Unbroken, answers, compiles, overfull, in-room}
 
 -- the answer of the writer, a refusal at the text's end
 abbrev pub toldAt : ℕ → WriteAnswer → Compiled
@@ -98,7 +98,5 @@ module _ {text names : List ℕ} {rows : ℕ} (a : Unbroken text names rows)
       let bytes = file-aside 71364 t ∙ holds-file t holds in
       let c = in-room text (length before) (a .readable) (a .verdict) fits in
       let (p, q) = by-room (length text) (fileOf M) before _ refl in
-      record {
-        tells = result ∙ ap (toldAt (length text)) told ∙ ap (λ (l : List ℕ). toldAt (length text) (writes true l before)) bytes ∙ p ∙ ap answered (sym c);
-        leaves = left ∙ ap (λ (l : List ℕ). written true l before) bytes ∙ q ∙ ap (buffered before) (sym c);
-      }
+      answers (result ∙ ap (toldAt (length text)) told ∙ ap (λ (l : List ℕ). toldAt (length text) (writes true l before)) bytes ∙ p ∙ ap answered (sym c))
+      (left ∙ ap (λ (l : List ℕ). written true l before) bytes ∙ q ∙ ap (buffered before) (sym c))

@@ -7,6 +7,7 @@ ghost use Rattle.prescribed.specs.Acceptance.{Readable};
 ghost use Rattle.prescribed.specs.Compiles.{compileOf};
 ghost use Rattle.prescribed.specs.Answers.{answered, buffered};
 ghost use Rattle.kept.specs.Kept.{Kept};
+ghost use Rattle.tdl.specs.Numbers.{numbersIn, numbersOf};
 ghost use Rattle.tdl.specs.Stages.{Compiles, Unbroken};
 ghost use Rattle.tdl.specs.Writings.{toldAt, Declares};
 use file::WriteAnswer;
@@ -183,10 +184,9 @@ fn judged<'a>(text: &'a [u8], memo: &'a [usize], out: &mut [u8]) -> Compiled
     translated(text, memo, &names, judged.rows, out)
 }
 
-// The file of a text at the front of the buffer, or the refusal.
-pub fn compile(text: &[u8], out: &mut [u8]) -> Compiled
-    ensures answer { λ r. ⌜ r ≡ answered (compileOf (now (text .entry)) (length (now (out .entry)))) ⌝ }
-    ensures buffer { λ _. ⌜ now (out .exit) ≡ buffered (now (out .entry)) (compileOf (now (text .entry)) (length (now (out .entry)))) ⌝ }
+// The passes over a text, one after the other; the first that refuses it ends them.
+fn passes(text: &[u8], out: &mut [u8]) -> Compiled
+    ensures { λ r. ⌜ Compiles (now (text .entry)) (now (out .entry)) r (now (out .exit)) ⌝ }
 {
     if text.len() > 16384 {
         return Compiled::Refused { number: 1, at: 0 };
@@ -200,4 +200,13 @@ pub fn compile(text: &[u8], out: &mut [u8]) -> Compiled
         };
     }
     judged(text, &memo, out)
+}
+
+// The file of a text at the front of the buffer, or the refusal.
+pub fn compile(text: &[u8], out: &mut [u8]) -> Compiled
+    ensures answer { λ r. ⌜ r ≡ answered (compileOf (now (text .entry)) (length (now (out .entry)))) ⌝ }
+    ensures buffer { λ _. ⌜ now (out .exit) ≡ buffered (now (out .entry)) (compileOf (now (text .entry)) (length (now (out .entry)))) ⌝ }
+    ensures numbers { λ r. ⌜ numbersIn r ≡ numbersOf (compileOf (now (text .entry)) (length (now (out .entry)))) ⌝ }
+{
+    passes(text, out)
 }

@@ -17,13 +17,13 @@ enum-told-2 : tie.Need-enum-told-2
 enum-told-2 c = search needs
 
 returns : tie.Need-returns
-returns c = back-refused (c .before .before .before .before .args .t) (decode (now (c .before .before .before .before .args .bytes))) (c .before .before .read .result) (c .enum-told2 .given .0 .0) (c .before .before .read .ensures) (c .enum-told2 .given .1)
+returns c = back-refused (c .before .before .before .before .args .t) (decode (now (c .before .before .before .before .args .bytes))) (c .before .before .read .result) (c .enum-told2 .given .0 .0) (c .before .before .read .ensures .0) (c .enum-told2 .given .1)
 
 same-tables-requires : tie.Need-same-tables-requires
 same-tables-requires c κs = search needs
 
 returns-2 : tie.Need-returns-2
-returns-2 c = c .same-tables .ensures ∙ back-read (c .before .before .before .before .before .before .args .t) (decode (now (c .before .before .before .before .before .before .args .bytes))) (c .before .before .before .before .read .result) (c .before .before .before .before .read .ensures) (c .before .before .enum-told .given .1)
+returns-2 c = c .same-tables .ensures ∙ back-read (c .before .before .before .before .before .before .args .t) (decode (now (c .before .before .before .before .before .before .args .bytes))) (c .before .before .before .before .read .result) (c .before .before .before .before .read .ensures .0) (c .before .before .enum-told .given .1)
 
 pub reads-back-spec : {M : Type 1} → statement M
 reads-back-spec =

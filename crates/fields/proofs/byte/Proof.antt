@@ -29,7 +29,7 @@ wide-requires c κs = search needs
 returns-3 : tie.Need-returns-3
 returns-3 c =
     let b = c .wide .ensures in
-    (law.takes-got _ (c .before .before .before .before .if1 .left) (byte-at (now (c .before .before .before .before .before .before .args .s)) (c .before .before .before .before .before .before .args .next) (omega arith)) (b .0), b .1)
+    (law.takes-got _ (c .before .before .before .before .if1 .left) (byte-at (now (c .before .before .before .before .before .before .args .s)) (c .before .before .before .before .before .before .args .next) (omega arith)) (b .0) (omega arith), b .1)
 
 pub byte-spec : {M : Type 1} → statement M
 byte-spec =

@@ -46,7 +46,7 @@ returns-3 : tie.Need-returns-3
 returns-3 c =
     let a = c .before .before .wide .ensures in
     let b = c .wide2 .ensures in
-    (law.takes-got _ (c .before .before .before .before .before .before .if1 .left) (be2-at (now (c .before .before .before .before .before .before .before .before .args .s)) (c .before .before .before .before .before .before .before .before .args .next) (omega arith)) (rw (a .0, b .0) refl), omega arith)
+    (law.takes-got _ (c .before .before .before .before .before .before .if1 .left) (be2-at (now (c .before .before .before .before .before .before .before .before .args .s)) (c .before .before .before .before .before .before .before .before .args .next) (omega arith)) (rw (a .0, b .0) refl) (omega arith), omega arith)
 
 pub pair-spec : {M : Type 1} → statement M
 pair-spec =

@@ -78,7 +78,7 @@ returns-3 c =
     let b = c .before .before .before .before .wide2 .ensures in
     let d = c .before .before .wide3 .ensures in
     let e = c .wide4 .ensures in
-    law.takes-got _ (c .before .before .before .before .before .before .before .before .before .before .if1 .left) (be4-at (now (c .before .before .before .before .before .before .before .before .before .before .before .before .args .s)) (c .before .before .before .before .before .before .before .before .before .before .before .before .args .next) (omega arith)) (rw (a .0, b .0, d .0, e .0) refl)
+    law.takes-got _ (c .before .before .before .before .before .before .before .before .before .before .if1 .left) (be4-at (now (c .before .before .before .before .before .before .before .before .before .before .before .before .args .s)) (c .before .before .before .before .before .before .before .before .before .before .before .before .args .next) (omega arith)) (rw (a .0, b .0, d .0, e .0) refl) (omega arith)
 
 pub quad-spec : {M : Type 1} → statement M
 quad-spec =

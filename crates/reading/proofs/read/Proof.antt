@@ -1,7 +1,8 @@
 use Rattle.fields.specs.TakingLaws.{number-got, number-no}
 use Rattle.reading.specs.Framing as framing
-use Rattle.reading.specs.Readings.{readingOf}
+use Rattle.reading.specs.Readings.{readingOf, read-numbered}
 use denote.Ref.{now}
+use Rattle.file.specs.Files.{decode}
 use lib.ListN.{length-drop}
 use mathlib.Core.Logic.{⊎-elim}
 use mathlib.Core.Path.{sym, ap, _∙_}
@@ -18,8 +19,9 @@ refused-requires c κs = search needs
 
 returns : tie.Need-returns
 returns c =
-    c .refused .ensures
-    ∙ ⊎-elim (λ e. absurd (omega arith)) (λ e. ap readingOf (sym (framing.decode-short (now (c .before .before .before .before .before .args .bytes)) (e .1)))) (number-no (λ e. omega arith) (c .before .before .before .quad .ensures))
+    read-numbered (decode (now (c .before .before .before .before .before .args .bytes)))
+    (c .refused .ensures
+    ∙ ⊎-elim (λ e. absurd (omega arith)) (λ e. ap readingOf (sym (framing.decode-short (now (c .before .before .before .before .before .args .bytes)) (e .1)))) (number-no (λ e. omega arith) (c .before .before .before .quad .ensures)))
 
 wide32-requires : tie.Need-wide32-requires
 wide32-requires c κs = search needs
@@ -31,13 +33,13 @@ refused-requires-2 : tie.Need-refused-requires-2
 refused-requires-2 c κs = search needs
 
 returns-2 : tie.Need-returns-2
-returns-2 c = c .refused2 .ensures ∙ ap readingOf (sym (framing.decode-wrong (now (c .before .before .before .before .before .before .before .before .args .bytes)) (number-got (omega arith) (c .before .before .before .before .before .before .quad .ensures) .1) (λ e. omega (arith, length-drop (c .before .before .before .before .before .before .quad .result .next) (now (c .before .before .before .before .before .before .before .before .args .bytes))))))
+returns-2 c = read-numbered (decode (now (c .before .before .before .before .before .before .before .before .args .bytes))) (c .refused2 .ensures ∙ ap readingOf (sym (framing.decode-wrong (now (c .before .before .before .before .before .before .before .before .args .bytes)) (number-got (omega arith) (c .before .before .before .before .before .before .quad .ensures) .1) (λ e. omega (arith, length-drop (c .before .before .before .before .before .before .quad .result .next) (now (c .before .before .before .before .before .before .before .before .args .bytes)))))))
 
 versioned-requires : tie.Need-versioned-requires
 versioned-requires c κs = search needs
 
 returns-3 : tie.Need-returns-3
-returns-3 c = c .versioned .ensures ∙ ap readingOf (sym (framing.decode-on (now (c .before .before .before .before .before .before .before .before .args .bytes)) (number-got (omega arith) (c .before .before .before .before .before .before .quad .ensures) .1) (omega (arith, length-drop (c .before .before .before .before .before .before .quad .result .next) (now (c .before .before .before .before .before .before .before .before .args .bytes))))))
+returns-3 c = read-numbered (decode (now (c .before .before .before .before .before .before .before .before .args .bytes))) (c .versioned .ensures ∙ ap readingOf (sym (framing.decode-on (now (c .before .before .before .before .before .before .before .before .args .bytes)) (number-got (omega arith) (c .before .before .before .before .before .before .quad .ensures) .1) (omega (arith, length-drop (c .before .before .before .before .before .before .quad .result .next) (now (c .before .before .before .before .before .before .before .before .args .bytes)))))))
 
 pub read-spec : {M : Type 1} → statement M
 read-spec =

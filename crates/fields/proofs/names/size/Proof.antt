@@ -29,7 +29,7 @@ checked-requires : tie.Need-checked-requires
 checked-requires c κs = search needs
 
 returns : tie.Need-returns
-returns c = (law.takes-check _ _ _ _ (c .before .within .ensures) (c .before .before .byte .ensures .0) (c .checked .ensures .is (now (c .before .before .before .before .args .s))), rw (c .checked .ensures .value, c .before .within .ensures) (law.fine-most _ (c .before .before .byte .result .value) _ (least _)))
+returns c = (law.takes-check _ _ _ _ (c .before .within .ensures) (c .before .before .byte .ensures .0) (c .checked .ensures .is (now (c .before .before .before .before .args .s))) (c .checked .ensures .place), rw (c .checked .ensures .value, c .before .within .ensures) (law.fine-most _ (c .before .before .byte .result .value) _ (least _)))
 
 pub size-spec : {M : Type 1} → statement M
 size-spec = tie.close (tie.spec byte-requires within-requires checked-requires returns)

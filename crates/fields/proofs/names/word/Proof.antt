@@ -57,7 +57,7 @@ returns-3 c =
     let l = names.sized-least (drop (c .before .before .before .before .before .before .before .before .before .before .args .next) s) p in
     let e = c .before .before .before .before .before .wide32 .ensures .0 in
     record {
-      is = law.takes-got _ b (names.whole-name (drop (c .before .before .before .before .before .before .before .before .before .before .args .next) s) s (c .before .before .before .before .before .before .before .before .size .result .next) (c .before .before .before .before .before .wide32 .result) (rw e p) (omega arith) (ap goodName (names.slice-part (c .before .before .before .before .before .before .before .before .size .result .next) _ s) ∙ sym (c .before .good-name .ensures) ∙ c .if3 .taken)) refl;
+      is = law.takes-got _ b (names.whole-name (drop (c .before .before .before .before .before .before .before .before .before .before .args .next) s) s (c .before .before .before .before .before .before .before .before .size .result .next) (c .before .before .before .before .before .wide32 .result) (rw e p) (omega arith) (ap goodName (names.slice-part (c .before .before .before .before .before .before .before .before .size .result .next) _ s) ∙ sym (c .before .good-name .ensures) ∙ c .if3 .taken)) refl (omega arith);
       ahead = omega arith;
       inside = omega arith;
       short = omega arith;

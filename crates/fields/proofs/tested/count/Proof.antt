@@ -16,7 +16,7 @@ checked-requires c κs = search needs
 
 returns : tie.Need-returns
 unfolding count
-returns c = (law.takes-check _ _ _ _ refl (c .before .pair .ensures .0) (c .checked .ensures .is (now (c .before .before .before .args .s))), rw (c .checked .ensures .value) (law.fine-most _ _ _ (λ h. leb-true _ _ h)))
+returns c = (law.takes-check _ _ _ _ refl (c .before .pair .ensures .0) (c .checked .ensures .is (now (c .before .before .before .args .s))) (c .checked .ensures .place), rw (c .checked .ensures .value) (law.fine-most _ _ _ (λ h. leb-true _ _ h)))
 
 pub count-spec : {M : Type 1} → statement M
 count-spec = tie.close (tie.spec pair-requires checked-requires returns)

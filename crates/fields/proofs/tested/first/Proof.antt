@@ -17,7 +17,7 @@ checked-requires c κs = search needs
 
 returns : tie.Need-returns
 unfolding word
-returns c = law.takes-check _ _ _ _ (c .before .fits-first .ensures) (c .before .before .quad .ensures) (c .checked .ensures .is (now (c .before .before .before .before .args .s)))
+returns c = law.takes-check _ _ _ _ (c .before .fits-first .ensures) (c .before .before .quad .ensures) (c .checked .ensures .is (now (c .before .before .before .before .args .s))) (c .checked .ensures .place)
 
 pub first-spec : {M : Type 1} → statement M
 first-spec = tie.close (tie.spec quad-requires fits-first-requires checked-requires returns)

@@ -14,7 +14,7 @@ checked-requires : tie.Need-checked-requires
 checked-requires c κs = search needs
 
 returns : tie.Need-returns
-returns c = law.takes-check _ _ _ _ refl (c .before .byte .ensures .0) (c .checked .ensures .is (now (c .before .before .before .args .s)))
+returns c = law.takes-check _ _ _ _ refl (c .before .byte .ensures .0) (c .checked .ensures .is (now (c .before .before .before .args .s))) (c .checked .ensures .place)
 
 pub flag-spec : {M : Type 1} → statement M
 flag-spec = tie.close (tie.spec byte-requires checked-requires returns)

@@ -18,7 +18,7 @@ checked-requires c κs = search needs
 
 returns : tie.Need-returns
 unfolding type
-returns c = (law.takes-check _ _ _ _ refl (c .before .byte .ensures .0) (c .checked .ensures .is (now (c .before .before .before .args .s))), rw (c .checked .ensures .value) (law.fine-below _ (c .before .byte .result .value) _ (λ h. ltb-true _ _ h) (omega arith)))
+returns c = (law.takes-check _ _ _ _ refl (c .before .byte .ensures .0) (c .checked .ensures .is (now (c .before .before .before .args .s))) (c .checked .ensures .place), rw (c .checked .ensures .value) (law.fine-below _ (c .before .byte .result .value) _ (λ h. ltb-true _ _ h) (omega arith)))
 
 pub kind-spec : {M : Type 1} → statement M
 kind-spec = tie.close (tie.spec byte-requires checked-requires returns)

@@ -35,7 +35,7 @@ checked-requires c κs = search needs
 
 returns : tie.Need-returns
 unfolding portCount
-returns c = (law.takes-check _ _ _ _ (c .before .fits-share .ensures) (law.takes-like (λ bs. sym (be1-byte bs)) (c .before .before .byte .ensures .0)) (c .checked .ensures .is (now (c .before .before .before .before .args .s))), rw (c .checked .ensures .value, c .before .fits-share .ensures) (bound _ _ (c .before .before .byte .result .value) (both _ _)))
+returns c = (law.takes-check _ _ _ _ (c .before .fits-share .ensures) (law.takes-like (λ bs. sym (be1-byte bs)) (c .before .before .byte .ensures .0)) (c .checked .ensures .is (now (c .before .before .before .before .args .s))) (c .checked .ensures .place), rw (c .checked .ensures .value, c .before .fits-share .ensures) (bound _ _ (c .before .before .byte .result .value) (both _ _)))
 
 pub share-spec : {M : Type 1} → statement M
 share-spec = tie.close (tie.spec byte-requires fits-share-requires checked-requires returns)

@@ -17,7 +17,7 @@ checked-requires c κs = search needs
 
 returns : tie.Need-returns
 unfolding count
-returns c = (law.takes-check _ _ _ _ refl (law.takes-like (λ bs. sym (be1-byte bs)) (c .before .byte .ensures .0)) (c .checked .ensures .is (now (c .before .before .before .args .s))), rw (c .checked .ensures .value) (law.fine-most _ _ _ (λ h. leb-true _ _ h)))
+returns c = (law.takes-check _ _ _ _ refl (law.takes-like (λ bs. sym (be1-byte bs)) (c .before .byte .ensures .0)) (c .checked .ensures .is (now (c .before .before .before .args .s))) (c .checked .ensures .place), rw (c .checked .ensures .value) (law.fine-most _ _ _ (λ h. leb-true _ _ h)))
 
 pub small-count-spec : {M : Type 1} → statement M
 small-count-spec = tie.close (tie.spec byte-requires checked-requires returns)

@@ -15,7 +15,7 @@ checked-requires : tie.Need-checked-requires
 checked-requires c κs = search needs
 
 returns : tie.Need-returns
-returns c = law.takes-check _ _ _ _ (c .before .within .ensures) (c .before .before .quad .ensures) (c .checked .ensures .is (now (c .before .before .before .before .args .s)))
+returns c = law.takes-check _ _ _ _ (c .before .within .ensures) (c .before .before .quad .ensures) (c .checked .ensures .is (now (c .before .before .before .before .args .s))) (c .checked .ensures .place)
 
 pub time-spec : {M : Type 1} → statement M
 time-spec = tie.close (tie.spec quad-requires within-requires checked-requires returns)

@@ -17,7 +17,7 @@ checked-requires c κs = search needs
 
 returns : tie.Need-returns
 unfolding value
-returns c = law.takes-check _ _ _ _ (c .before .fits-kind .ensures) (c .before .before .quad .ensures) (c .checked .ensures .is (now (c .before .before .before .before .args .s)))
+returns c = law.takes-check _ _ _ _ (c .before .fits-kind .ensures) (c .before .before .quad .ensures) (c .checked .ensures .is (now (c .before .before .before .before .args .s))) (c .checked .ensures .place)
 
 pub value-spec : {M : Type 1} → statement M
 value-spec = tie.close (tie.spec quad-requires fits-kind-requires checked-requires returns)

@@ -5,13 +5,11 @@ use Rattle.tdl.specs.Stages.{compiles, long, unreadable}
 use native.Mathlib.Omega.{arith}
 use borrow.Author.Needs.{needs}
 use Rattle.grammar.specs.Syntax.{syntax-free}
-use Rattle.tdl.proofs.compile.Statement.{statement}
-use Rattle.tdl.proofs.compile.Tie as tie
+use Rattle.tdl.proofs.passes.Statement.{statement}
+use Rattle.tdl.proofs.passes.Tie as tie
 
 returns : tie.Need-returns
-returns c =
-    let right = compiles {text = now (c .before .before .before .args .text)} {before = now (c .before .before .before .args .out)} (long _ _ (omega (arith, c .if1 .taken))) in
-    (right .tells, right .leaves)
+returns c = compiles {text = now (c .before .before .before .args .text)} {before = now (c .before .before .before .args .out)} (long _ _ (omega (arith, c .if1 .taken)))
 
 slice-aggregate-syntax : tie.Need-slice-aggregate-syntax
 slice-aggregate-syntax c = search needs
@@ -25,8 +23,7 @@ enum-known-pass c = search needs
 returns-2 : tie.Need-returns-2
 returns-2 c =
     let args = c .before .before .before .before .before .before .before .before .before .args in
-    let right = compiles {text = now (args .text)} {before = now (args .out)} (unreadable _ _ (omega (arith, c .before .before .before .before .before .before .if1 .left)) _ _ (told _ _ (sym (c .before .pass .given .1) ∙ c .before .before .before .before .syntax .ensures .0))) in
-    (right .tells, right .leaves)
+    compiles {text = now (args .text)} {before = now (args .out)} (unreadable _ _ (omega (arith, c .before .before .before .before .before .before .if1 .left)) _ _ (told _ _ (sym (c .before .pass .given .1) ∙ c .before .before .before .before .syntax .ensures .0)))
 
 enum-told : tie.Need-enum-told
 enum-told c = search needs
@@ -45,8 +42,8 @@ same-length c = search needs
 returns-3 : tie.Need-returns-3
 returns-3 c = search needs
 
-pub compile-spec : {M : Type 1} → statement M
-compile-spec =
+pub passes-spec : {M : Type 1} → statement M
+passes-spec =
     tie.close
     (tie.spec
     returns
