@@ -40,10 +40,6 @@ pub record Account : Type 0 where
 abbrev pub counting : Account → State → Tally → Account
 counting a state tally = record { state = state; releases = a .releases + tally .begun; terminations = a .terminations + tally .ended }
 
--- the calls of a history
-abbrev pub Call : Type 0
-Call = Ask
-
 -- after every call of a history
 unfoldable pub history : Board → Account → List Ask → Account
 history b a [] = a

@@ -13,8 +13,8 @@ use Rattle.model.specs.Modules.{Module, Mode, Act, Call, Update, portStarts}
 use Rattle.model.specs.Clock.{fits}
 use Rattle.model.specs.Instructions.{Instr, nop, future, call, release, iff, jump, return, switch, Driver, updates, releases, terminates}
 use Rattle.timing.specs.Slots.{spans}
-use Rattle.timing.specs.Rules.{Store, Standing, idle, ready, running, done, nextInstant, entered, instant}
-use Rattle.timing.specs.Calls.{Ask, tick, next, finish, Reply, waits, reacted, refused, fell, given, taken, View, ask, started, replies, comes, remains}
+use Rattle.timing.specs.Rules.{Store, Standing, idle, ready, running, done, noMode, nextInstant, entered, instant}
+use Rattle.timing.specs.Calls.{Ask, tick, next, finish, Reply, waits, reacted, refused, fell, given, taken, View, startFrom, ask, started, replies, comes, remains}
 use Rattle.timing.specs.Code.{driversOf, codeOf, beginsOf, instantsOf, instantsFrom, front, back, laterBlocks, modeCode, codeFrom, beginsFrom}
 
 -- bench case 5: period 10ms, task 2, update 5
@@ -144,3 +144,7 @@ shown : T (
     )
 unfolding twoModes started ask entered instant nextInstant spans portStarts fits same holds
 shown = tt
+
+-- the start mode is the one that is marked, wherever it stands
+marked : startFrom 0 (noMode ∷ record { name = []; start = true; period = 4; calls = []; updates = []; switches = [] } ∷ noMode ∷ []) ≡ 1
+marked = refl
