@@ -38,7 +38,7 @@ module _ (table : Table) where
   sound-readable : soundIn table ≡ true → Readable table
   sound-readable good = record { bytes = bytesOf table; whole = file-whole 71364 table; reads = sym (read-written table good) }
 
-  readable-sound : Readable table → soundIn table ≡ true
+  pub readable-sound : Readable table → soundIn table ≡ true
   readable-sound r = go (decode (r .bytes)) refl (r .reads)
     where
       go : (a : Answer) → decode (r .bytes) ≡ a → record { answer = Read; table = table } ≡ readingOf a → soundIn table ≡ true

@@ -1,7 +1,7 @@
 -- Demand 3: what is counted. Instructions by the definition's steps; releases, terminations and tasks out.
 use Prim.Native.Nat.{ℕ, _+_}
 use native.Mathlib.Omega.{arith}
-use mathlib.Core.Path.{_≡_, refl, sym, _∙_, ap, ap₂}
+use mathlib.Core.Path.{_≡_, refl, sym, _∙_, ap, ap₂, subst}
 use mathlib.Core.Bool.{Bool, true, false, cond}
 use mathlib.Core.Option.{none, some}
 use mathlib.Core.List.{List, [], _∷_, map}
@@ -18,22 +18,29 @@ use Rattle.machine.specs.declared.Reaction.the-variants.{Obeyed, Idle, Refused,
 use Rattle.machine.specs.declared.Turn.the-variants as U
 use Rattle.machine.specs.declared.Finishing.the-variants as F
 use Rattle.machine.specs.Words.{countIn}
-use Rattle.machine.specs.Boards.{Board}
+use Rattle.machine.specs.Boards.{Board, boardOf}
 use Rattle.machine.specs.Instructions.{late, wild, astray, clash, Res, ok, bad, Halt, Tally}
 use Rattle.machine.specs.Store.{Store, reaction}
 use Rattle.machine.specs.Calls as C
 use Rattle.machine.specs.Calls.{State, cameTo, sensed, byInstant}
-use Rattle.machine.specs.Starts.{fresh}
+use Rattle.machine.specs.Counts.{history, opened}
+use Rattle.machine.specs.SoundLaws.{started-count-law}
+use Rattle.machine.specs.Starts.{fresh, start}
+use Rattle.tables.specs.declared.Table.{Table}
+use Rattle.ecode.specs.Sound.{sound-holds}
 use Rattle.emachine.specs.declared.Machine.{Machine}
 use Rattle.emachine.specs.declared.Ticked.{Ticked}
-use Rattle.emachine.specs.Machines.{stateIn}
+use Rattle.emachine.specs.Machines.{boardIn, stateIn}
+use Rattle.boards.specs.Agreement.{board-is}
+use Rattle.starting.specs.Starting.{Started}
 use Rattle.bridge.specs.Boards.{board}
 use Rattle.bridge.specs.Faithful as Fa
 use Rattle.bridge.specs.Promises.{DueNow}
 use Rattle.bridge.specs.CountKept.{out-counted}
-use Rattle.demands.specs.Uses.{Serves, Runs, Launch, moduleIn, first, rules, newMachine, stepsFrom}
+use Rattle.demands.specs.Uses.{Serves, Runs, Launch, Readable, moduleIn, first, rules, newMachine, stepsFrom}
 use Rattle.demands.specs.Terms.{owedAfter, firstOwed, ifObeyed, releasedIn, endedIn, releasesSoFar, terminationsSoFar}
-use Rattle.demands.specs.Joins.{same-board, keeps, begun-is, starts-so, stateAt, Behind, behind, then, obeyed-answer}
+use Rattle.demands.specs.Joins.{all, same-board, keeps, begun-is, starts-so, stateAt, Behind, behind, then, obeyed-answer}
+use Rattle.demands.specs.Begins.{readable-sound}
 use Rattle.demands.specs.Timing as T
 
 -- ---- instructions
@@ -141,3 +148,19 @@ module _ (l : Launch) where
         let out = out-counted M (keeps l) (stateAt l calls) (rules l calls) (here .near) in
         let word : countIn (stateAt l calls .store .out) ≡ countIn (m .standing .out) = ap (λ (y : Machine). countIn (y .standing .out)) (sym (here .left-so)) in
         omega arith
+
+-- ---- any table that the reader returns, by the instructions obeyed
+
+pub count-any : (table : Table) (count : ℕ) (types words : List ℕ) (r : Ticked) → Started table count types words r → Readable table → fits (C.readingTypes (boardIn table)) types words ≡ true
+    → (calls : List Ask) (answers : List Answer) (n : Machine) → Runs (r .machine) calls answers n
+    → let account = history (boardIn table) (opened (boardIn table) count words) calls in account .releases ≡ account .terminations + countIn (n .standing .out)
+count-any table count types words r s readable fit calls answers n run =
+    let h = sound-holds table (readable-sound table readable) in
+    let u = h .table in
+    let same : boardIn table ≡ boardOf u = ap boardIn (sym (h .is)) ∙ board-is u (h .good) in
+    let is = s .begun u (h .good) (h .is) in
+    let from = start u count types words .state in
+    let left = all (boardOf u) table same calls answers from n (subst (λ (k : Ticked). Runs (k .machine) calls answers n) is run) .1 in
+    let law = started-count-law u count types words (h .good) (subst (λ (b : Board). fits (C.readingTypes b) types words ≡ true) same fit) calls in
+    subst (λ (b : Board). history b (opened b count words) calls .releases ≡ history b (opened b count words) calls .terminations + countIn (n .standing .out)) (sym same)
+    (law ∙ ap (λ (k : Machine). history (boardOf u) (opened (boardOf u) count words) calls .terminations + countIn (k .standing .out)) (sym left))

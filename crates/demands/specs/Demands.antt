@@ -35,6 +35,7 @@ use Rattle.machine.specs.Boards.{Board}
 use Rattle.machine.specs.Instructions.{late, wild, astray, clash, ok, Future, noTally, counted, step, fail}
 use Rattle.machine.specs.Store.{part, lotOf}
 use Rattle.machine.specs.Calls as M
+use Rattle.machine.specs.Counts.{history, opened}
 use Rattle.machine.specs.Starts.{fresh}
 use Rattle.tables.specs.declared.Table.{Table}
 use Rattle.layout.specs.Plain.{structOf}
@@ -368,6 +369,12 @@ module _ (l : Launch) where
       → Keeps (moduleIn l) readings results one (first l) 0 (λ j. 0) → Keeps (moduleIn l) readings results other (first l) 0 (λ j. 0) → dues (moduleIn l) one (first l) ≡ dues (moduleIn l) other (first l)
       → (seen (moduleIn l) n₁ ≡ seen (moduleIn l) n₂) × (log (moduleIn l) one answers₁ (l .begun .machine) n₁ r₁ ≡ log (moduleIn l) other answers₂ (l .begun .machine) n₂ r₂)
   order-hidden = O.order-hidden l
+
+-- The count law also holds of every table that the reader returns, started with readings that fit: releases and terminations by the instructions obeyed (machine, Counts).
+pub count-law-any : (table : Table) (count : ℕ) (types words : List ℕ) (r : Ticked) → Started table count types words r → Readable table → fits (M.readingTypes (boardIn table)) types words ≡ true
+    → (calls : List Ask) (answers : List Answer) (n : Machine) → Runs (r .machine) calls answers n
+    → let account = history (boardIn table) (opened (boardIn table) count words) calls in account .releases ≡ account .terminations + countIn (n .standing .out)
+count-law-any = N.count-any
 
 -- Later readings enter only later, on any machine: those of a tick that is not due are checked and not taken.
 pub deaf : (m : Machine) (count : ℕ) (types words types₁ words₁ : List ℕ) (x y : Answer) (n k : Machine) → Serves m (tick count types words) x n → Serves m (tick count types₁ words₁) y k

@@ -25,6 +25,7 @@ use Rattle.machine.specs.declared.Reaction.{Reaction}
 use Rattle.machine.specs.declared.Reaction.the-variants.{Obeyed, Idle, Refused, Late, Fault}
 use Rattle.machine.specs.declared.Turn.the-variants as T
 use Rattle.machine.specs.declared.Finishing.the-variants as F
+use Rattle.machine.specs.Asks as A
 use Rattle.machine.specs.Boards.{Board}
 use Rattle.machine.specs.Instructions as E
 use Rattle.machine.specs.Calls as C
@@ -73,10 +74,10 @@ obeyed-number x e = let (n, q) = obeyed-answer x e in ap number q
 
 -- ---- calls
 
-module _ (M : Module) (t : Table) (same : boardIn t ≡ board M) where
-  pub one : (a : Ask) (x : Answer) (s : State) (n : Machine) → Serves (machineOf t s) a x n → (x ≡ asks M a s .answer) × (n ≡ machineOf t (asks M a s .state))
+module _ (b : Board) (t : Table) (same : boardIn t ≡ b) where
+  pub one : (a : Ask) (x : Answer) (s : State) (n : Machine) → Serves (machineOf t s) a x n → (x ≡ A.asks b a s .answer) × (n ≡ machineOf t (A.asks b a s .state))
   one (tick count types words) (ticking x) s n e =
-      let q : _≡_ {A = Ticked} (record { answer = x; machine = n }) (tickedOn t (C.tick (board M) s count types words)) = e ∙ ap (λ (b : Board). tickedOn t (C.tick b s count types words)) same in
+      let q : _≡_ {A = Ticked} (record { answer = x; machine = n }) (tickedOn t (C.tick b s count types words)) = e ∙ ap (λ (y : Board). tickedOn t (C.tick y s count types words)) same in
       (ap (λ (r : Ticked). ticking (r .answer)) q, ap (λ (r : Ticked). r .machine) q)
   one (tick count types words) (turning x) s n e = absurd e
   one (tick count types words) (finishing x) s n e = absurd e
@@ -86,16 +87,16 @@ module _ (M : Module) (t : Table) (same : boardIn t ≡ board M) where
   one (finish task types words) (ticking x) s n e = absurd e
   one (finish task types words) (turning x) s n e = absurd e
   one (finish task types words) (finishing x) s n e =
-      let q : _≡_ {A = Finished} (record { answer = x; machine = n }) (finishedOn t (C.finish (board M) s task types words)) = e ∙ ap (λ (b : Board). finishedOn t (C.finish b s task types words)) same in
+      let q : _≡_ {A = Finished} (record { answer = x; machine = n }) (finishedOn t (C.finish b s task types words)) = e ∙ ap (λ (y : Board). finishedOn t (C.finish y s task types words)) same in
       (ap (λ (r : Finished). finishing (r .answer)) q, ap (λ (r : Finished). r .machine) q)
 
-  pub all : (calls : List Ask) (answers : List Answer) (s : State) (n : Machine) → Runs (machineOf t s) calls answers n → (answers ≡ machineAnswers M calls s) × (n ≡ machineOf t (machineLeaves M calls s))
+  pub all : (calls : List Ask) (answers : List Answer) (s : State) (n : Machine) → Runs (machineOf t s) calls answers n → (answers ≡ A.answers b calls s) × (n ≡ machineOf t (A.behind b calls s))
   all [] [] s n r = (refl, r)
   all [] (x ∷ answers) s n r = absurd r
   all (a ∷ calls) [] s n r = absurd r
   all (a ∷ calls) (x ∷ answers) s n (k, (c, r)) =
       let (p, q) = one a x s k c in
-      let (ps, qs) = all calls answers (asks M a s .state) n (subst (λ (m : Machine). Runs m calls answers n) q r) in
+      let (ps, qs) = all calls answers (A.asks b a s .state) n (subst (λ (m : Machine). Runs m calls answers n) q r) in
       (ap₂ (λ (y : Answer) (l : List Answer). y ∷ l) p ps, qs)
 
 -- ---- compile, read, start
@@ -173,7 +174,7 @@ module _ (l : Launch) where
 
   pub behind : (calls : List Ask) (answers : List Answer) (m : Machine) → Runs (l .begun .machine) calls answers m → Behind calls answers m
   behind calls answers m r =
-      let (p, q) = all M (l .reading .table) same-board calls answers (begun M keeps (l .count) (l .types) (l .words)) m
+      let (p, q) = all (board M) (l .reading .table) same-board calls answers (begun M keeps (l .count) (l .types) (l .words)) m
       (subst (λ (k : Machine). Runs k calls answers m) (ap (λ (x : Ticked). x .machine) begun-is) r) in
       record {
         answered-so = p;
@@ -185,7 +186,7 @@ module _ (l : Launch) where
   -- one call more
   pub then : (calls : List Ask) (answers : List Answer) (m : Machine) → Behind calls answers m → (a : Ask) (x : Answer) (n : Machine) → Serves m a x n
       → (x ≡ asks M a (stateAt calls) .answer) × (n ≡ machineOf (l .reading .table) (asks M a (stateAt calls) .state))
-  then calls answers m b a x n c = one M (l .reading .table) same-board a x (stateAt calls) n (subst (λ (k : Machine). Serves k a x n) (b .left-so) c)
+  then calls answers m b a x n c = one (board M) (l .reading .table) same-board a x (stateAt calls) n (subst (λ (k : Machine). Serves k a x n) (b .left-so) c)
 
 -- ---- what is shown
 

@@ -23,7 +23,7 @@ module _ (M : Module) (t : Table) (same : boardIn t ≡ board M) where
   logged [] answers s m n e r = refl
   logged (a ∷ calls) [] s m n e r = absurd r
   logged (a ∷ calls) (x ∷ answers) s m n e (k, (c, r)) =
-      let (p, q) = one M t same a x s k (subst (λ (y : Machine). Serves y a x k) e c) in
+      let (p, q) = one (board M) t same a x s k (subst (λ (y : Machine). Serves y a x k) e c) in
       ap₂ (λ (y : Answer) (z : Machine). noted (replyTo y) (seen M z) (log M calls answers k n r)) p q
       ∙ ap (λ (rest : List Seen). noted (replyTo (asks M a s .answer)) (seenIn M (asks M a s .state)) rest) (logged calls answers (asks M a s .state) k n q r)
 

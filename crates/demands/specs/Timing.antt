@@ -27,6 +27,7 @@ use Rattle.machine.specs.Calls.{State}
 use Rattle.emachine.specs.declared.Machine.{Machine}
 use Rattle.emachine.specs.declared.Ticked.{Ticked}
 use Rattle.emachine.specs.Machines.{stateIn, machineOf}
+use Rattle.bridge.specs.Boards.{board}
 use Rattle.bridge.specs.Views.{standOf, rowOf, Fitting, stands}
 use Rattle.bridge.specs.Docked.{asks, dockOf, Held}
 use Rattle.bridge.specs.Faithful as Fa
@@ -197,8 +198,8 @@ module _ (l : Launch) where
     unseen tasks one other answers₁ answers₂ n₁ n₂ r₁ r₂ w c =
         let e = here .left-so in
         let t = l .reading .table in
-        let (p₁, q₁) = all M t (same-board l) one answers₁ s n₁ (subst (λ (k : Machine). Runs k one answers₁ n₁) e r₁) in
-        let (p₂, q₂) = all M t (same-board l) other answers₂ s n₂ (subst (λ (k : Machine). Runs k other answers₂ n₂) e r₂) in
+        let (p₁, q₁) = all (board M) t (same-board l) one answers₁ s n₁ (subst (λ (k : Machine). Runs k one answers₁ n₁) e r₁) in
+        let (p₂, q₂) = all (board M) t (same-board l) other answers₂ s n₂ (subst (λ (k : Machine). Runs k other answers₂ n₂) e r₂) in
         let h = no-trace M tasks one other (rules l calls) w c in
         let b₁ = all-calls M (keeps l) one s (rules l calls) (here .near) in
         let b₂ = all-calls M (keeps l) other s (rules l calls) (here .near) in
