@@ -164,7 +164,7 @@ accepts-only = F.accepts-only
 pub accepts-all : (text before : List ℕ) → Accepts text (length before) (fileOf (moduleOf text)) → (answer : Compiled) (after : List ℕ) → Compiles text before answer after → answer ≡ W.Written (length (fileOf (moduleOf text)))
 accepts-all = F.accepts-all
 
--- and writes the one file it prescribes, and nothing behind it.
+-- and writes the one file it prescribes; the bytes behind it stay as they were.
 pub one-file : (text before : List ℕ) (size : ℕ) (after : List ℕ) → Compiles text before (W.Written size) after → (take size after ≡ fileOf (moduleOf text)) × (after ≡ fileOf (moduleOf text) ++ drop size before)
 one-file = F.one-file
 
