@@ -1,6 +1,6 @@
 -- The three demands over the code's contracts, one theorem for each sentence. Read Uses and Terms for the words; the proofs stand elsewhere and are cited.
 use Prim.Native.Nat.{ℕ, suc, _+_, _*_, _≤_, _<_}
-use mathlib.Core.Path.{_≡_}
+use mathlib.Core.Path.{_≡_, refl}
 use mathlib.Core.Logic.{_≢_, _⊎_}
 use mathlib.Core.Bool.{Bool, true, false, cond, _&&_, not}
 use mathlib.Core.Option.{none, some}
@@ -127,7 +127,10 @@ fault-names = C.fault-names
 pub stopped-refuses : (m : Machine) → m .standing .stopped ≡ true → (a : Ask) (x : Answer) (n : Machine) → Serves m a x n → (means x ≡ refusal 31) × (n ≡ m)
 stopped-refuses = C.stopped-refuses
 
--- A refused start makes no machine: what stands in its place is stopped and blank. A start that faults leaves beginning values, stopped.
+-- A refused start makes no machine: what stands in its place is blank and answers every call with 31. A start that faults leaves beginning values, stopped.
+pub blank-refuses : (table : Table) (a : Ask) (x : Answer) (n : Machine) → Serves (blankMachine table) a x n → (means x ≡ refusal 31) × (n ≡ blankMachine table)
+blank-refuses table = C.stopped-refuses (blankMachine table) refl
+
 module _ (table : Table) (count : ℕ) (types words : List ℕ) (r : Ticked) (s : Started table count types words r) where
   pub start-refused : Refuses (ticking (r .answer)) → r .machine ≡ blankMachine table
   start-refused = B.start-refused table count types words r s
@@ -161,7 +164,7 @@ accepts-only = F.accepts-only
 pub accepts-all : (text before : List ℕ) → Accepts text (length before) (fileOf (moduleOf text)) → (answer : Compiled) (after : List ℕ) → Compiles text before answer after → answer ≡ W.Written (length (fileOf (moduleOf text)))
 accepts-all = F.accepts-all
 
--- and writes the one file it prescribes, and nothing behind it.
+-- and writes the one file it prescribes; the bytes behind it stay as they were.
 pub one-file : (text before : List ℕ) (size : ℕ) (after : List ℕ) → Compiles text before (W.Written size) after → (take size after ≡ fileOf (moduleOf text)) × (after ≡ fileOf (moduleOf text) ++ drop size before)
 one-file = F.one-file
 
