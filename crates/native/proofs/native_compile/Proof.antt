@@ -14,7 +14,7 @@ same-length : tie.Need-same-length
 same-length c = search needs
 
 returns : tie.Need-returns
-returns c = (c .compiled .ensures ∙ ap translation (c .before .before .before .compile .ensures .0), c .before .before .before .compile .ensures .1)
+returns c = (c .compiled .ensures ∙ ap translation (c .before .before .before .compile .ensures .0), c .before .before .before .compile .ensures .1 .0)
 
 pub native-compile-spec : {M : Type 1} → statement M
 native-compile-spec = tie.close (tie.spec compile-requires compiled-requires same-length returns)

@@ -15,7 +15,7 @@ read-number-requires c κs = search needs
 
 returns : tie.Need-returns
 returns c =
-    let read = c .before .before .before .before .before .before .before .before .before .before .read .ensures in
+    let read = c .before .before .before .before .before .before .before .before .before .before .read .ensures .0 in
     (c .read-number .ensures ∙ ap (λ (r : Reading). readNumber (r .answer)) read, (ap (λ (r : Reading). countsIn (r .table)) read, (ap (λ (r : Reading). r .table .code) read, (ap (λ (r : Reading). r .table .«driver_rows») read, (ap (λ (r : Reading). r .table .«guard_rows») read, (ap (λ (r : Reading). r .table .«mode_rows») read, (ap (λ (r : Reading). r .table .«task_rows») read, (ap (λ (r : Reading). r .table .types) read, ap (λ (r : Reading). r .table .starts) read))))))))
 
 pub native-read-spec : {M : Type 1} → statement M
