@@ -1,6 +1,6 @@
 // The E-machine driven by a script of named calls: the trace of what it answers and what each call changes (docs/RUN.md).
 // Promises: it ends when the input does, in the memory that it has from the beginning, whatever the lines say.
-// Builds on scripts, traces and lines, and on the product's own reader and machine.
+// Builds on lines and naming, and on the product's own reader and machine.
 use emachine::Machine;
 use file::ReadAnswer;
 use input::Input;
@@ -11,8 +11,15 @@ use traces::Said;
 ghost use Prim.Native.Nat.{_≤_};
 
 mod answers;
+mod changes;
 mod input;
+mod messages;
+mod pieces;
+mod scripts;
 mod showing;
+mod traces;
+mod values;
+mod words;
 
 // The machine, whether a start made it, and whether the script has ended.
 struct Dock {
@@ -83,7 +90,7 @@ fn ask(line: &[u8], found: bool, made: bool, machine: Machine, values: &mut [u32
 // A line that asks nothing of the machine: a comment, a help, an error; whether it has an error.
 fn plain(line: &[u8], input: Input, call: Call) -> bool {
     if input.long {
-        traces::answers::trouble(input.number, b"the line is too long\n");
+        messages::trouble(input.number, b"the line is too long\n");
         return true;
     }
     if !input.found {
@@ -95,10 +102,10 @@ fn plain(line: &[u8], input: Input, call: Call) -> bool {
     }
     traces::echo(line);
     if call.kind == scripts::HELP {
-        traces::answers::help();
+        messages::help();
         return false;
     }
-    traces::answers::error(line, input.number, call.wrong, call.from, call.to);
+    messages::error(line, input.number, call.wrong, call.from, call.to);
     true
 }
 
@@ -269,10 +276,10 @@ fn drive(buffer: &mut [u8], first: Input, told: Told, bytes: &[u8], values: &mut
     let table = reading.table;
     match answer {
         ReadAnswer::Refused(n) => {
-            traces::answers::unread(n);
+            messages::unread(n);
         }
         ReadAnswer::Read => {
-            scripts::values::fetch(&table.types, 0, values, 64);
+            values::fetch(&table.types, 0, values, 64);
             let dock = empty(table);
             run(buffer, first, told.stop, dock, values);
         }
@@ -287,7 +294,7 @@ fn begin(buffer: &mut [u8], bytes: &mut [u8], values: &mut [u32]) {
     let told = opening(&buffer[from..to], bytes);
     let size = least(told.size, bytes.len());
     if size == 0 {
-        traces::answers::trouble(0, b"file HEX expected\n");
+        messages::trouble(0, b"file HEX expected\n");
         return;
     }
     drive(buffer, first, told, &bytes[0..size], values);

@@ -1,8 +1,10 @@
 // What stood before a call, and the trace of it.
+use super::scripts;
+use super::scripts::Call;
+use super::traces;
+use super::traces::Said;
 use calls::Standing;
 use emachine::Machine;
-use scripts::Call;
-use traces::Said;
 
 // Where a machine stands before its start.
 pub(super) fn unstarted() -> Standing {
