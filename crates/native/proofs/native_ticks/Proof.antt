@@ -38,7 +38,7 @@ returns c =
     (c .before .before .ticked .ensures
     ∙ ap (λ (t : Ticked). ticksFrom (a .later) (now (a .types)) (now (a .words)) (a .times) (t .machine))
     (rw (is-read .ensures) at (start-on .ensures .0)))
-    ∙ ap (λ (r : Reading). heldOf (ticksOf r (a .count) (a .later) (a .times) (now (a .types)) (now (a .words)) .standing)) (reading .ensures)
+    ∙ ap (λ (r : Reading). heldOf (ticksOf r (a .count) (a .later) (a .times) (now (a .types)) (now (a .words)) .standing)) (reading .ensures .0)
 
 pub native-ticks-spec : {M : Type 1} → statement M
 native-ticks-spec =
