@@ -1,4 +1,4 @@
--- Reading, writing and soundness, said of tables of plain arrays: both round trips, one table to a meaning, one answer to a call.
+-- Reading, writing and soundness, said of tables of plain arrays: both round trips, one table to a meaning, and which tables are sound.
 use mathlib.Core.Path.{_≡_, refl, sym, ap, ap₂, _∙_}
 use mathlib.Core.Bool.{Bool, true, false}
 use mathlib.Core.List.{List}
@@ -11,10 +11,8 @@ use Rattle.file.specs.Answers.{writes, written}
 use Rattle.file.specs.RoundTrips.{decode-encode, encode-decode}
 use Rattle.file.specs.Returned.{table-once}
 use Rattle.file.specs.declared.ReadAnswer.the-variants.{Read}
-use Rattle.file.specs.declared.WriteAnswer.{WriteAnswer}
 use Rattle.tables.specs.declared.Table.{Table as Plain}
 use Rattle.layout.specs.Plain.{structOf}
-use Rattle.reading.specs.declared.Reading.{Reading}
 use Rattle.reading.specs.Readings.{readingOf}
 use Rattle.ecode.specs.Sound.{bytesOf, soundIn, Holds, sound-holds, holds-file, holds-sound}
 
@@ -58,11 +56,7 @@ write-sound t h buffer =
     let f = holds-file t h in
     (ap₂ (λ (b : Bool) (l : List ℕ). writes b l buffer) s f, ap₂ (λ (b : Bool) (l : List ℕ). written b l buffer) s f)
 
--- ---- no second answer
-
--- what the contract of `read` says of an answer
-pub read-once : (bs : List ℕ) (one other : Reading) → one ≡ readingOf (decode bs) → other ≡ readingOf (decode bs) → one ≡ other
-read-once bs one other p q = p ∙ sym q
+-- ---- which tables are sound
 
 -- an answer that tells the tables that the reader can return from all others
 pub record Tells (t : Plain) (answer : Bool) : Type 0 where
@@ -80,9 +74,3 @@ sound-once t false tells = go (soundIn t) refl
     go : (b : Bool) → soundIn t ≡ b → false ≡ soundIn t
     go true e = absurd (tells .no refl (sound-holds t e))
     go false e = sym e
-
-pub write-once : (t : Plain) (before one other : List ℕ) (answer another : WriteAnswer)
-    → answer ≡ writes (soundIn t) (bytesOf t) before → one ≡ written (soundIn t) (bytesOf t) before
-    → another ≡ writes (soundIn t) (bytesOf t) before → other ≡ written (soundIn t) (bytesOf t) before
-    → (answer ≡ another) × (one ≡ other)
-write-once t before one other answer another p q r s = (p ∙ sym r, q ∙ sym s)

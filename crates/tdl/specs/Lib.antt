@@ -1,4 +1,3 @@
 pub mod Numbers
 pub mod Stages
 pub mod Writings
-pub mod NoSecond
