@@ -6,7 +6,7 @@ use Rattle.std.proofs.Math.Path.{refl}
 use Rattle.std.proofs.Math.Option.{none}
 use mathlib.Core.List.{List, [], ◌∷◌, ◌++◌, map}
 use Rattle.std.proofs.Math.ListN.{length}
-use Rattle.codec.specs.Codecs.{and_left, and_right}
+use Rattle.codec.proofs.Codecs.{and_left, and_right}
 use Rattle.model.specs.Modules.{Module, Mode, Task, Output, Act, Update, each}
 use Rattle.text.specs.Items.{syntax_of}
 use Rattle.file.specs.References.{task_roles, port_roles, is_source, is_actuator, good_driver}

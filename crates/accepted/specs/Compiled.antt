@@ -3,15 +3,16 @@ use Rattle.std.specs.Prelude.{ℕ, ◌≡◌, List, true}
 use Rattle.std.proofs.Math.Path.{ap}
 use Rattle.std.proofs.Common.{◌∙◌}
 use Rattle.file.specs.Files.{decode, read, sound}
-use Rattle.file.specs.RoundTrips.{decode-encode}
+use Rattle.file.proofs.RoundTrips.{decode-encode}
 use Rattle.timing.specs.Accepted.{Accepted}
 use Rattle.refusals.specs.declared.Verdict.TheVariants.{Fine}
 use Rattle.refusals.specs.ChecksLaws.{leftmost-unique}
-use Rattle.refusals.specs.RulesOrder.{verdict-leftmost}
+use Rattle.refusals.proofs.RulesOrder.{verdict-leftmost}
 use Rattle.refusals.specs.Texts.{all_rules, verdict_of, module_of}
 use Rattle.prescribed.specs.Tables.{table_of}
 use Rattle.prescribed.specs.Compiles.{file, file_of, compile_of}
-use Rattle.prescribed.specs.Acceptance.{Unbroken, free, accepts}
+use Rattle.prescribed.specs.Acceptance.{Unbroken}
+use Rattle.prescribed.proofs.Acceptance.{free, accepts}
 use Rattle.timing.specs.PortsAfter.{Aimed}
 use Rattle.accepted.specs.Accepts.{accepted}
 use Rattle.accepted.specs.Aims.{aimed}

@@ -9,8 +9,8 @@ use Rattle.text.specs.declared.State.TheVariants as Q
 use Rattle.text.specs.declared.Item.{Item}
 use Rattle.text.specs.declared.Item.TheVariants as I
 use Rattle.text.specs.Items.{item_at, goes, onto, items_in, items_of, refused_or, refused_in, syntax_of}
-use Rattle.text.specs.Advance.{item-ahead}
-use Rattle.text.specs.PartsLaws.{unsaid}
+use Rattle.text.proofs.Advance.{item-ahead}
+use Rattle.text.proofs.PartsLaws.{unsaid}
 use Rattle.refusals.specs.declared.Row.{Row}
 use Rattle.refusals.specs.declared.Verdict.TheVariants.{Fine}
 use Rattle.refusals.specs.Checks.{first}

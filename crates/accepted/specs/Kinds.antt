@@ -6,7 +6,7 @@ use Rattle.std.proofs.Math.Seq.{get_or-append_seam}
 use Rattle.text.specs.declared.State.{State}
 use Rattle.text.specs.declared.Item.{Item}
 use Rattle.text.specs.Items.{syntax_of}
-use Rattle.text.specs.PartsLaws.{unsaid}
+use Rattle.text.proofs.PartsLaws.{unsaid}
 use Rattle.timing.specs.SlotLaws.{Each}
 use Rattle.refusals.specs.declared.Row.{Row}
 use Rattle.refusals.specs.declared.Verdict.TheVariants.{Fine}

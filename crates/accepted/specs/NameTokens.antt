@@ -9,7 +9,7 @@ use Rattle.std.proofs.Math.Bool.{true}
 use Rattle.std.proofs.lemmas.Bool.{eqb-false, not-true}
 use Rattle.std.proofs.Math.Seq.{slice, slice_empty, slice-cons}
 use Rattle.std.proofs.Math.ListN.{get_or}
-use Rattle.codec.specs.Codecs.{and_left, and_right, and_both}
+use Rattle.codec.proofs.Codecs.{and_left, and_right, and_both}
 use Rattle.model.specs.Bytes.{place_in}
 use Rattle.text.specs.declared.Token.{Token}
 use Rattle.text.specs.declared.Token.TheVariants as T
@@ -17,10 +17,10 @@ use Rattle.text.specs.declared.Lexed.{Lexed}
 use Rattle.text.specs.declared.Skipped.{Skipped}
 use Rattle.text.specs.declared.Skipped.TheVariants.{Stop, Open}
 use Rattle.text.specs.Words.{letter, digit, word_byte, munch_at, keywords}
-use Rattle.text.specs.WordsLaws.{munch-end, munch-on, munch-out}
+use Rattle.text.proofs.WordsLaws.{munch-end, munch-on, munch-out}
 use Rattle.text.specs.Spaces.{spaces_at}
 use Rattle.text.specs.Tokens.{code_of, code_at, key_tokens, word_token, sign_token, lexed, becomes, token_from, starts_at, behind, token_at}
-use Rattle.text.specs.TokensLaws.{munch-at-within}
+use Rattle.text.proofs.TokensLaws.{munch-at-within}
 use Rattle.file.specs.Parts.{all_in}
 use Rattle.file.specs.Names.{name_bytes, is_keyword, good_name}
 

@@ -8,7 +8,7 @@ use Rattle.std.proofs.Math.Option.{none}
 use Rattle.std.proofs.Math.Dec.{eqb}
 use Rattle.model.specs.Modules.{Sensor, Actuator, Output, Task, each}
 use Rattle.text.specs.Items.{syntax_of}
-use Rattle.text.specs.PartsLaws.{unsaid}
+use Rattle.text.proofs.PartsLaws.{unsaid}
 use Rattle.refusals.specs.declared.Row.{Row}
 use Rattle.refusals.specs.declared.Verdict.TheVariants.{Fine}
 use Rattle.refusals.specs.Names.{sensor_sort, actuator_sort, input_sort, output_sort, count, is_sort, is_port}

@@ -1,12 +1,13 @@
 -- What makes a codec's value one that can stand in a file, part by part (document 01, 'The file').
 use Rattle.std.specs.Prelude.{ℕ, ◌^◌, ◌≤◌, ◌<◌, ◌≡◌, refl, List, [], ◌∷◌, Bool, true, false, cond, eqb, ltb, leb, length}
 use Rattle.std.proofs.Common.{arith, lt-ltb, le-leb, leb-true, eq-eqb, eqb-true}
-use Rattle.std.proofs.Math.Option.{some}
-use Rattle.codec.specs.Codecs.{Codec, and_left, and_right, and_both}
-use Rattle.codec.specs.Numbers.{byte, be, be-ok}
+use Rattle.codec.specs.Codecs.{Codec}
+use Rattle.codec.proofs.Codecs.{and_left, and_right, and_both}
+use Rattle.codec.specs.Numbers.{byte, be}
+use Rattle.codec.proofs.Numbers.{be-ok}
 use Rattle.codec.specs.Sequences.{dep, dep_ok}
 use Rattle.codec.specs.Views.{check, shape, view_ok}
-use Rattle.codec.specs.Tags.{enum, numbered}
+use Rattle.codec.specs.Tags.{enum}
 use Rattle.codec.specs.Lists.{running, list, run_ok, many_ok}
 use Rattle.model.specs.Values.{fits_type}
 use Rattle.text.specs.Words.{within, letter, digit, word_byte}
@@ -19,17 +20,17 @@ pub check-so : {A : Type 0} (c : Codec A) (e : ℕ) (test : A → Bool) (a : A) 
 unfolding check view_ok
 check-so c e test a p q = and_both p q
 
-pub shape-so : {A B : Type 0} (c : Codec A) (to : B → A) (from : A → B) (one : (b : B) → from (to b) ≡ b) (two : (a : A) → c.ok a ≡ true → to (from a) ≡ a) (b : B) → c.ok (to b) ≡ true → (shape c to from one two).ok b ≡ true
+pub shape-so : {A B : Type 0} (c : Codec A) (to : B → A) (from : A → B) (b : B) → c.ok (to b) ≡ true → (shape c to from).ok b ≡ true
 unfolding shape view_ok
-shape-so c to from one two b p = p
+shape-so c to from b p = p
 
 pub dep-so : {A : Type 0} (c : Codec A) (P : A → Type 0) (d : (a : A) → Codec (P a)) (a : A) (b : P a) → c.ok a ≡ true → (d a).ok b ≡ true → (dep c P d).ok (a, b) ≡ true
 unfolding dep dep_ok
 dep-so c P d a b p q = and_both p q
 
-pub enum-so : {A : Type 0} (c : Codec ℕ) (e : ℕ) (number : A → ℕ) (all : List A) (known : (a : A) → numbered number all (number a) ≡ some a) (a : A) → c.ok (number a) ≡ true → (enum c e number all known).ok a ≡ true
+pub enum-so : {A : Type 0} (c : Codec ℕ) (e : ℕ) (number : A → ℕ) (all : List A) (a : A) → c.ok (number a) ≡ true → (enum c e number all).ok a ≡ true
 unfolding enum view_ok
-enum-so c e number all known a p = p
+enum-so c e number all a p = p
 
 pub running-so : {A S : Type 0} (c : S → Codec A) (on : S → A → S) (counts : Codec ℕ) (s : S) (xs : List A) → counts.ok (length xs) ≡ true → run_ok c on s xs ≡ true → (running c on counts s).ok xs ≡ true
 unfolding running view_ok dep_ok

@@ -8,7 +8,7 @@ use Rattle.std.proofs.Math.Option.{none}
 use borrow.Author.Tests.{lt-ltb, eq-eqb}
 use Rattle.std.proofs.Math.Dec.{eqb, ltb}
 use Rattle.std.proofs.Math.ListN.{length, length-map}
-use Rattle.codec.specs.Codecs.{and_both}
+use Rattle.codec.proofs.Codecs.{and_both}
 use Rattle.model.specs.Modules.{Module, Mode, Task, Act, Call, Update, each}
 use Rattle.model.specs.Instructions.{Instr, nop, future, call, release, iff, jump, return, switch, Driver, updates, releases}
 use Rattle.file.specs.Parts.{all_in}

@@ -7,8 +7,9 @@ use Rattle.std.proofs.Math.Option.{none, some}
 use Rattle.std.proofs.Math.ListN.{length, length-map}
 use mir.Syntax.{w32}
 use Rattle.std.proofs.Math.Facts.{Fits-of_z}
-use Rattle.codec.specs.Codecs.{and_both}
-use Rattle.codec.specs.Numbers.{byte, be, be-ok}
+use Rattle.codec.proofs.Codecs.{and_both}
+use Rattle.codec.specs.Numbers.{byte, be}
+use Rattle.codec.proofs.Numbers.{be-ok}
 use Rattle.codec.specs.Sequences.{dep, dep_ok}
 use Rattle.codec.specs.Views.{check, shape, view_ok}
 use Rattle.codec.specs.Tags.{enum}

@@ -9,7 +9,7 @@ use Rattle.std.proofs.Math.Option.{none}
 use borrow.Author.Tests.{eqb-true, eq-eqb, not-false}
 use Rattle.std.proofs.Math.Dec.{eqb}
 use Rattle.std.proofs.Math.ListN.{length, get_or}
-use Rattle.codec.specs.Codecs.{and_right}
+use Rattle.codec.proofs.Codecs.{and_right}
 use Rattle.model.specs.Instructions.{updates}
 use Rattle.model.specs.Modules.{Module, Task, no_task, Mode, Act, Call, Update}
 use Rattle.file.specs.References.{is_source, takes, good_driver}

@@ -75,3 +75,5 @@ module _ (frequency : ℕ) (l : List ℕ) (n i : ℕ) (g : n ≤ length l) where
   pub divides-out : i < n → (get_or l i 0 % frequency ≡ 0 → ⊥) → divides_all frequency (drop i (take n l)) ≡ false
   unfolding divides_all
   divides-out h e = rw (here h) (simp (ne_eqb _ _ e))
+
+pub ruleset divides_laws = (divides-out, divides-on)

@@ -18,6 +18,7 @@ pub fn least(a: usize, b: usize) -> usize
 }
 
 // Whether a frequency divides each of the first n numbers.
+#[tactic(auto, using(crate::specs::KeptLaws::divides_laws))]
 fn divides_all(numbers: &[usize], n: usize, frequency: usize) -> bool
     requires { 0 < frequency }
     ensures { result ≡ divides_all frequency (take n numbers.now) }

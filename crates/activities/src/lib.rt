@@ -1,6 +1,8 @@
 // The rules 7 to 12 that modes and their activities must keep, part by part.
 // Promises that each function answers with the first of its rules that is broken, in text order, as the definitions of refusals list them, where the index of the table is right for the text.
 // Builds on the rules of names and ports, on what names mean, and on the table of names.
+#![tactic(auto)]
+
 ghost use Rattle.std.specs.Prelude.{◌≡◌, ◌++◌};
 ghost use Rattle.refusals.specs.Checks.{first};
 ghost use Rattle.refusals.specs.Refusals.{beyond as beyond_room};

@@ -1,6 +1,8 @@
 // Which tasks are out, waiting or finished: words of 64 bits, a bit for each task.
 // Promises: each function is the machine's own definition, for every task number: one of 64 and more is in no word and joins none.
 // Builds on the definitions of machine.
+#![tactic(auto)]
+
 ghost use Rattle.std.specs.Prelude.{◌≡◌, get_or};
 ghost use Rattle.machine.specs.Words.{has as has_of, joined, parted, lowest_in, count_in};
 ghost use Rattle.bits.specs.Found.{found_of};
@@ -44,7 +46,7 @@ pub fn part(word: u64, task: u32) -> u64
 }
 
 // The lowest-numbered task of a word, or none.
-#[derive(Drop)]
+#[derive(Clone, Copy)]
 pub enum Found {
     Task(u32),
     Nobody,

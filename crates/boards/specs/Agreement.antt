@@ -1,6 +1,6 @@
 -- The board of the arrays of a sound table is the board of the table.
 use Rattle.std.specs.Prelude.{◌+◌, ◌*◌, ◌≡◌, true, length}
-use Rattle.codec.specs.Codecs.{and_left}
+use Rattle.codec.proofs.Codecs.{and_left}
 use Rattle.model.specs.Rooms.{task_room, mode_room, driver_room, guard_room, code_room}
 use Rattle.file.specs.Tables.{Table}
 use Rattle.file.specs.Files.{table, table_by, sound}

@@ -4,9 +4,9 @@ use Rattle.std.proofs.Common.{mod-eq_of_lt, arith, sym, ap, ◌∙◌, ltb-true}
 use Rattle.std.proofs.Math.Path.{refl}
 use mathlib.Core.List.{List, [], ◌∷◌, ◌++◌, map}
 use Rattle.std.proofs.lemmas.List.{length-map}
-use Rattle.codec.specs.Numbers.{be-below}
-use Rattle.codec.specs.Sequences.{dep-ok}
-use Rattle.codec.specs.Views.{check-ok, shape-ok}
+use Rattle.codec.proofs.Numbers.{be-below}
+use Rattle.codec.proofs.Sequences.{dep-ok}
+use Rattle.codec.proofs.Views.{check-ok, shape-ok}
 use Rattle.model.specs.Rooms.{guard_room}
 use Rattle.model.specs.Bytes.{place_in}
 use Rattle.model.specs.Values.{function_names, no_guard}
@@ -27,12 +27,12 @@ use Rattle.boards.specs.Lists.{tab-padded, map_at, past-cell, past_first}
 
 port-below : (number : ℕ) → argument.ok (port number) ≡ true → number < 65536
 unfolding argument argument_rest
-port-below number h = be-below 2 number (dep-ok _ _ _ of_port number (shape-ok _ _ _ _ _ (port number) h)).1
+port-below number h = be-below 2 number (dep-ok _ _ _ of_port number (shape-ok _ _ _ (port number) h)).1
 
 type-below : (kind word : ℕ) → argument.ok (fixed kind word) ≡ true → kind < 2
 unfolding argument argument_rest type
 type-below kind word h =
-    let value = (dep-ok _ _ _ of_value (kind, word) (shape-ok _ _ _ _ _ (fixed kind word) h)).1 in
+    let value = (dep-ok _ _ _ of_value (kind, word) (shape-ok _ _ _ (fixed kind word) h)).1 in
     ltb-true _ _ (check-ok _ _ _ kind (dep-ok _ _ _ kind word value).0).0
 
 fixed-is : (kind word : ℕ) → kind < 2 → operand_by (kind + 1) word ≡ operand_of (fixed kind word)

@@ -13,5 +13,4 @@ pub mod Promises
 pub mod PortsKept
 pub mod LaterOnly
 pub mod ReleasesKept
-pub mod CountKept
 pub mod OrderKept

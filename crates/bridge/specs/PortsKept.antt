@@ -19,7 +19,8 @@ use Rattle.timing.specs.Changes.{tasks_of}
 use Rattle.timing.specs.PortLaws.{SensorPort, ActuatorPort, InputPort, output_count}
 use Rattle.timing.specs.PortsAfter.{Aimed}
 use Rattle.timing.specs.NothingEarly as N
-use Rattle.timing.specs.NothingEarly.{fit-history}
+use Rattle.timing.proofs.NothingEarly as NLaws
+use Rattle.timing.proofs.NothingEarly.{fit-history}
 use Rattle.timing.specs.Docks.{ticking, reply_to}
 use Rattle.machine.specs.declared.Reaction.TheVariants.{Obeyed, Refused}
 use Rattle.machine.specs.declared.Turn.TheVariants as T
@@ -34,9 +35,9 @@ use Rattle.machine.specs.Calls.{State, Ticked, Finished, faulted, came_to, sense
 use Rattle.bridge.specs.Boards.{board}
 use Rattle.bridge.specs.Docked.{asks, dock_of}
 use Rattle.bridge.specs.Faithful.{Started}
-use Rattle.bridge.specs.Beside.{Beside, one-call, beside}
+use Rattle.bridge.specs.Beside.{Beside}
 use Rattle.bridge.specs.Sources.{Sourced, Set, actuator-updated}
-use Rattle.bridge.specs.Promises.{word_in, standing_in, machine_at, view_at, ports-same, tasks-same}
+use Rattle.bridge.specs.Promises.{word_in, standing_in, machine_at, view_at}
 
 -- ---- between due ticks
 
@@ -47,84 +48,16 @@ pub record Resting (m after : State) : Type 0 where
   pub same-mode : after.mode ≡ m.mode
   pub same-pc : after.pc ≡ m.pc
 
-module _ (m : State) where
-  rests : Resting m m
-  rests = record { same-ports = refl; same_out = refl; same-mode = refl; same-pc = refl }
-
-  fault-rests : (fault : E.Fault) → Resting m (faulted fault m).state
-  fault-rests (E.late task) = record { same-ports = refl; same_out = refl; same-mode = refl; same-pc = refl }
-  fault-rests E.wild = record { same-ports = refl; same_out = refl; same-mode = refl; same-pc = refl }
-  fault-rests E.astray = record { same-ports = refl; same_out = refl; same-mode = refl; same-pc = refl }
-  fault-rests E.clash = record { same-ports = refl; same_out = refl; same-mode = refl; same-pc = refl }
-
-  came-rests : (count : ℕ) (tally : Tally) (res : Res (Halt Store)) → ((n : ℕ) → (came_to m count tally res).answer ≢ Obeyed n) → Resting m (came_to m count tally res).state
-  came-rests count tally (ok halt) n = absurd (n tally.steps refl)
-  came-rests count tally (bad fault) n = fault-rests fault
-
-  module _ (b : Board) where
-    instant-rests : (count : ℕ) (words : List ℕ) (instant : Instant) → ((n : ℕ) → (by_instant b m count words instant).answer ≢ Obeyed n) → Resting m (by_instant b m count words instant).state
-    unfolding K.reacted
-    instant-rests count words (early left) n = record { same-ports = refl; same_out = refl; same-mode = refl; same-pc = refl }
-    instant-rests count words due n = came-rests count _ (reaction b m.aside m.mode m.pc (sensed words m.store)).res n
-    instant-rests count words missed n = rests
-
-    tick-rests : (count : ℕ) (types words : List ℕ) → ((n : ℕ) → (K.tick b m count types words).answer ≢ Obeyed n) → Resting m (K.tick b m count types words).state
-    unfolding K.tick
-    tick-rests count types words n = go m.stopped (fits (reading_types b) types words) (instant-rests count words (judged (elapsed m.clock count) m.remaining)) n
-      where
-        served : Ticked
-        served = by_instant b m count words (judged (elapsed m.clock count) m.remaining)
-
-        go : (stopped fit : Bool) → (((n : ℕ) → served.answer ≢ Obeyed n) → Resting m served.state)
-            → ((n : ℕ) → (cond stopped (record { answer = Refused 31; state = m }) (cond fit served (record { answer = Refused 32; state = m }))).answer ≢ Obeyed n)
-            → Resting m (cond stopped (record { answer = Refused 31; state = m }) (cond fit served (record { answer = Refused 32; state = m }))).state
-        go true fit on n = rests
-        go false true on n = on n
-        go false false on n = rests
-
-    finish-rests : (task : ℕ) (types words : List ℕ) → Resting m (K.finish b m task types words).state
-    unfolding K.finish
-    finish-rests task types words = go m.stopped (at_work m.store task) (fits (result_types b task) types words)
-      where
-        taken : State
-        taken = K.with_words m (record { ports = m.store.ports; out = m.store.out; waiting = m.store.waiting; finished = joined m.store.finished task }) (place (task * port_room) words m.aside)
-
-        go : (stopped working fit : Bool)
-            → Resting m (cond {A = Finished} stopped (record { answer = F.Refused 31; state = m }) (cond {A = Finished} working (cond {A = Finished} fit (record { answer = F.Taken; state = taken }) (record { answer = F.Refused 35; state = m })) (record { answer = F.Refused 34; state = m }))).state
-        go true working fit = rests
-        go false true true = record { same-ports = refl; same_out = refl; same-mode = refl; same-pc = refl }
-        go false true false = rests
-        go false false fit = rests
-
-  handed-rests : (found : Option ℕ) → Resting m (handed_out m found).state
-  handed-rests none = rests
-  handed-rests (some task) = record { same-ports = refl; same_out = refl; same-mode = refl; same-pc = refl }
-
-  next-rests : Resting m (K.next_task m).state
-  unfolding K.next_task
-  next-rests = go m.stopped
-    where
-      go : (stopped : Bool) → Resting m (cond stopped (record { answer = T.Refused 31; state = m }) (handed_out m (lowest_in m.store.waiting))).state
-      go true = rests
-      go false = handed-rests (lowest_in m.store.waiting)
-
--- A call that is no reaction changes no port, releases and terminates no task, and leaves the mode.
-pub between : (M : Module) (a : Ask) (m : State) → ((n : ℕ) → (asks M a m).answer ≢ ticking (Obeyed n)) → Resting m (asks M a m).state
-between M (C.tick count types words) m n = tick-rests m (board M) count types words (λ k e. n k (ap ticking e))
-between M C.next m n = next-rests m
-between M (C.finish task types words) m n = finish-rests m (board M) task types words
-
 -- ---- at a due tick
-
 module _ (M : Module) (W : Accepted M) (A : Aimed M) (count : ℕ) (types₀ words₀ : List ℕ) (S : Started M W count types₀ words₀) (before : List Ask) (a : Ask) where
   -- the machine behind one call more
   abbrev pub machine_then : State
   machine_then = (asks M a (machine_at M W count types₀ words₀ S before)).state
 
-  abbrev now : State
+  abbrev pub now : State
   now = machine_at M W count types₀ words₀ S before
 
-  abbrev rules : View
+  abbrev pub rules : View
   rules = view_at M W count types₀ words₀ S before
 
   abbrev pub word_before : ℕ → ℕ
@@ -132,27 +65,6 @@ module _ (M : Module) (W : Accepted M) (A : Aimed M) (count : ℕ) (types₀ wor
 
   abbrev pub word_after : ℕ → ℕ
   word_after i = word_in M machine_then i
-
-  here : Beside M W now rules
-  here = beside M W count types₀ words₀ S before
-
-  then : Beside M W machine_then (ask M a rules).view
-  then = (one-call M W a now rules here).then
-
-  says : reply_to (asks M a now).answer ≡ some (ask M a rules).reply
-  says = (one-call M W a now rules here).says
-
-  reacts-so : (ask M a rules).reply ≡ reacted → reply_to (asks M a now).answer ≡ some reacted
-  reacts-so e = says ∙ ap some e
-
-  before_same : (i : ℕ) → word_before i ≡ get_or rules.place.store.ports i 0
-  before_same i = ap (λ (l : List ℕ). get_or l i 0) (ports-same M W now rules here)
-
-  after_same : (i : ℕ) → word_after i ≡ get_or (ask M a rules).view.place.store.ports i 0
-  after_same i = ap (λ (l : List ℕ). get_or l i 0) (ports-same M W machine_then (ask M a rules).view then)
-
-  still : (i : ℕ) → get_or (ask M a rules).view.place.store.ports i 0 ≡ get_or rules.place.store.ports i 0 → word_after i ≡ word_before i
-  still i e = after_same i ∙ e ∙ sym (before_same i)
 
   -- An output changes only at an instant at which a slot of its task ends, to the results that were finished in that slot.
   pub record Delivered (task n : ℕ) : Type 0 where
@@ -162,53 +74,15 @@ module _ (M : Module) (W : Accepted M) (A : Aimed M) (count : ℕ) (types₀ wor
     pub finished : standing_in M now task ≡ done results
     pub holds : word_after (outputs_of M task + n) ≡ get_or results n 0
 
-  pub output-kept : (task n : ℕ) → n < output_count M task → (word_after (outputs_of M task + n) ≡ word_before (outputs_of M task + n)) ⊎ Delivered task n
-  output-kept task n lt = go (N.output-changes M W A rules (fit-history M count words₀ before) a task n lt)
-    where
-      go : (get_or (ask M a rules).view.place.store.ports (outputs_of M task + n) 0 ≡ get_or rules.place.store.ports (outputs_of M task + n) 0) ⊎ N.HandsOver M W A rules (fit-history M count words₀ before) a task n
-          → (word_after (outputs_of M task + n) ≡ word_before (outputs_of M task + n)) ⊎ Delivered task n
-      go (inl e) = inl (still (outputs_of M task + n) e)
-      go (inr h) =
-          inr (record {
-            reacts = reacts-so h.reacts;
-            ends = h.ends;
-            results = h.results;
-            finished = ap (λ (l : List Standing). get_or l task idle) (tasks-same M W now rules here) ∙ h.finished;
-            holds = after_same (outputs_of M task + n) ∙ h.holds;
-          })
-
   -- An actuator changes only at an instant of one of its updates, to the word of that update's source.
   pub record Updated (i : ℕ) : Type 0 where
     pub reacts : reply_to (asks M a now).answer ≡ some reacted
     pub by : Set M (closing (mode_at M rules.place.mode).period (next_time M rules) (mode_at M rules.place.mode).updates) (dock_of M machine_then).store.ports i
 
-  pub actuator-kept : Sourced M → (i : ℕ) → ActuatorPort M i → (word_after i ≡ word_before i) ⊎ Updated i
-  actuator-kept R i p = go (N.actuator-changes M W A rules (fit-history M count words₀ before) a i p)
-    where
-      on : (r : (ask M a rules).reply ≡ reacted) → (get_or (ask M a rules).view.place.store.ports i 0 ≡ get_or rules.place.store.ports i 0)
-          ⊎ Set M (closing (mode_at M rules.place.mode).period (next_time M rules) (mode_at M rules.place.mode).updates) (ask M a rules).view.place.store.ports i → (word_after i ≡ word_before i) ⊎ Updated i
-      on r (inl e) = inl (still i e)
-      on r (inr u) =
-          inr (record {
-            reacts = reacts-so r;
-            by = subst (λ (l : List ℕ). Set M (closing (mode_at M rules.place.mode).period (next_time M rules) (mode_at M rules.place.mode).updates) l i) (sym (ports-same M W machine_then (ask M a rules).view then)) u;
-          })
-
-      go : (get_or (ask M a rules).view.place.store.ports i 0 ≡ get_or rules.place.store.ports i 0) ⊎ N.Updated M W A rules (fit-history M count words₀ before) a i → (word_after i ≡ word_before i) ⊎ Updated i
-      go (inl e) = inl (still i e)
-      go (inr h) = on h.reacts (actuator-updated M W A R rules (fit-history M count words₀ before) a h.reacts i p)
-
   -- Inputs change only at a release of their task.
   pub record Supplied (task : ℕ) : Type 0 where
     pub reacts : reply_to (asks M a now).answer ≡ some reacted
     pub releases : among task (ask M a rules).view.place.released ≡ true
-
-  pub input-kept : (task i : ℕ) → InputPort M task i → (word_after i ≡ word_before i) ⊎ Supplied task
-  input-kept task i p = go (N.input-changes M W A rules (fit-history M count words₀ before) a task i p)
-    where
-      go : (get_or (ask M a rules).view.place.store.ports i 0 ≡ get_or rules.place.store.ports i 0) ⊎ N.Begun M W A rules (fit-history M count words₀ before) a task → (word_after i ≡ word_before i) ⊎ Supplied task
-      go (inl e) = inl (still i e)
-      go (inr h) = inr (record { reacts = reacts-so h.reacts; releases = h.begins })
 
   -- Sensors take the readings of a due tick.
   pub record Sensed (i : ℕ) : Type 0 where
@@ -218,18 +92,3 @@ module _ (M : Module) (W : Accepted M) (A : Aimed M) (count : ℕ) (types₀ wor
     pub words : List ℕ
     pub called : a ≡ C.tick at types words
     pub holds : word_after i ≡ get_or words i 0
-
-  pub sensor-kept : (i : ℕ) → SensorPort M i → (word_after i ≡ word_before i) ⊎ Sensed i
-  sensor-kept i p = go (N.sensor-changes M W A rules (fit-history M count words₀ before) a i p)
-    where
-      go : (get_or (ask M a rules).view.place.store.ports i 0 ≡ get_or rules.place.store.ports i 0) ⊎ N.Read M W A rules (fit-history M count words₀ before) a i → (word_after i ≡ word_before i) ⊎ Sensed i
-      go (inl e) = inl (still i e)
-      go (inr h) =
-          inr (record {
-            reacts = reacts-so h.reacts;
-            at = h.tick.count;
-            types = h.tick.types;
-            words = h.tick.words;
-            called = h.tick.called;
-            holds = after_same i ∙ h.holds;
-          })

@@ -5,7 +5,7 @@ use Rattle.std.proofs.Math.Decide.{ℕ_discrete, dec_lt}
 use Rattle.std.proofs.Common.{sym, ◌∙◌, subst, inl, inr, append_assoc, length-append, length-set, get_or-append-add, get_or-set_same, get_or-set_other, eqb-true}
 use Rattle.std.proofs.Math.Path.{ap}
 use Rattle.std.proofs.Math.ListN.{length, get_or}
-use Rattle.codec.specs.Codecs.{and_left}
+use Rattle.codec.proofs.Codecs.{and_left}
 use Rattle.model.specs.Modules.{Module, Mode, Task, no_task, Act, Call, Update, task_ports, each, inputs_at}
 use Rattle.file.specs.References.{task_roles, port_roles, is_source, good_driver}
 use Rattle.refusals.specs.Texts.{module_of}
@@ -21,7 +21,7 @@ use Rattle.timing.specs.PortLaws.{mapped, place-above, task-ports-within, input_
 use Rattle.timing.specs.PortsAfter.{Aimed, fits-long}
 use Rattle.timing.specs.Changes.{Fit, fit-sensed, fit-terminations, Off, terminations-off, releases-off}
 use Rattle.prescribed.specs.Compiles.{file, compile_of}
-use Rattle.prescribed.specs.Acceptance.{free, accepts}
+use Rattle.prescribed.proofs.Acceptance.{free, accepts}
 use Rattle.accepted.specs.Lists.{each_map, each_at}
 use Rattle.accepted.specs.Meanings.{roles_of}
 use Rattle.accepted.specs.Takes.{Updated, Drives, modes-drive}

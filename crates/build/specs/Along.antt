@@ -8,9 +8,9 @@ use Rattle.text.specs.declared.State.{State}
 use Rattle.text.specs.declared.State.TheVariants as Q
 use Rattle.text.specs.declared.Item.{Item}
 use Rattle.text.specs.Items.{item_at, goes, items_from, items_of, Refusal, refused_or, refused_in, syntax_of}
-use Rattle.text.specs.ItemsLaws.{from_on, from-stop, turn_on}
-use Rattle.text.specs.Advance.{item-ahead}
-use Rattle.text.specs.PartsLaws.{unsaid}
+use Rattle.text.proofs.ItemsLaws.{from_on, from-stop, turn_on}
+use Rattle.text.proofs.Advance.{item-ahead}
+use Rattle.text.proofs.PartsLaws.{unsaid}
 use Rattle.refusals.specs.Declarations.{declares}
 use Rattle.refusals.specs.Rules.{Env, nothing, grow, env_after}
 use Rattle.names.specs.Tables.{rows_in}

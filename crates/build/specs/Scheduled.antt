@@ -19,7 +19,7 @@ use Rattle.ports.specs.Placing.{blank_board, bare-holds, placed-holds}
 use Rattle.sheets.specs.Sheets.{Sheet, planned}
 use Rattle.sheets.specs.Held.{PlansHold}
 use Rattle.sheets.specs.Walk.{inside_of, comes-in-order}
-use Rattle.sheets.specs.Kept.{plans-begin, plans-kept}
+use Rattle.sheets.proofs.Kept.{plans-begin, plans-kept}
 use Rattle.build.specs.Walks.{board_run, sheet_run}
 use Rattle.build.specs.Along.{throughout}
 use Rattle.build.specs.Sections.{Ordering, ordered}

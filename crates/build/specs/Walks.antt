@@ -10,8 +10,8 @@ use Rattle.text.specs.declared.ReadItem.{ReadItem}
 use Rattle.text.specs.declared.Item.{Item}
 use Rattle.text.specs.declared.Item.TheVariants as I
 use Rattle.text.specs.Items.{item_at, goes, items_from}
-use Rattle.text.specs.ItemsLaws.{from_on, from-stop, turn-ahead}
-use Rattle.text.specs.PartsLaws.{unsaid}
+use Rattle.text.proofs.ItemsLaws.{from_on, from-stop, turn-ahead}
+use Rattle.text.proofs.PartsLaws.{unsaid}
 use Rattle.refusals.specs.declared.Row.{Row}
 use Rattle.refusals.specs.Declarations.{declares}
 use Rattle.names.specs.Tables.{row_at, rows_from, rows_in}

@@ -14,7 +14,7 @@ use sheets::{Acting, Filled, Opened, Plan};
 use text::Name;
 
 // How far a walk has come: what it keeps, how many names were declared, and the state and the place of the next item; a place past the text's end where there is none.
-#[derive(Drop)]
+#[derive(Clone, Copy)]
 struct Walked {
     plan: Plan,
     declared: usize,

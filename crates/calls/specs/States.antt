@@ -13,7 +13,7 @@ use Rattle.machine.specs.Instructions.{late, wild, astray, clash, Res, ok, bad, 
 use Rattle.machine.specs.Store.{Store, part, reaction}
 use Rattle.machine.specs.Calls as C
 use Rattle.machine.specs.Calls.{State, stopped_by, came_to, sensed, reacted, by_instant, tick, finish, at_work}
-use Rattle.machine.specs.CallLaws.{tick-by}
+use Rattle.machine.proofs.CallLaws.{tick-by}
 use Rattle.steps.specs.declared.Ending.{Ending}
 use Rattle.steps.specs.declared.Ending.TheVariants as E
 use Rattle.steps.specs.Rows.{board_by, reactive}

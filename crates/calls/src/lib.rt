@@ -2,6 +2,8 @@
 // what remains, the mode, where the next reaction begins, the late task), marks (not 0: stopped; the fault) and sets (the tasks out, waiting, finished).
 // Promises: each call is its definition, for every table and every state: the answer, where the machine then stands, and every cell of the lent arrays.
 // Builds on the calls of machine, on react, bits and cells.
+#![tactic(auto)]
+
 ghost use Rattle.std.specs.Prelude.{◌≡◌, List, [], ◌∷◌, ℕ};
 ghost use Rattle.model.specs.Clock.{fits as fits_of};
 ghost use Rattle.machine.specs.Store.{part};
@@ -18,7 +20,7 @@ use steps::Ending;
 
 // The last accepted count, what remains, the mode, where the next reaction begins, the words of tasks; whether the machine is stopped, by which fault,
 // and which task was late.
-#[derive(Drop)]
+#[derive(Clone, Copy)]
 pub struct Standing {
     pub clock: u32,
     pub remaining: u32,

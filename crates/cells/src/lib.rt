@@ -1,6 +1,8 @@
 // Cells of lists, read and written at any number: past the end stands 0, and what is put there is lost.
 // Promises: every function is total and its answer is given by one definition; words and 32-bit integers are each other's two's complement.
 // Builds on the clock of model.
+#![tactic(auto)]
+
 ghost use Rattle.std.specs.Prelude.{◌≡◌, ◌<◌, int_lt, slice_index, slice_set};
 ghost use Rattle.std.specs.Int.{w32};
 ghost use Rattle.std.proofs.Common.{of_z, to_z};
@@ -103,7 +105,7 @@ pub fn elapsed(from: u32, to: u32) -> u32
 }
 
 // What a count means: early, with what then remains; due; missed.
-#[derive(Drop)]
+#[derive(Clone, Copy)]
 pub enum Instant {
     Early(u32),
     Due,

@@ -1,11 +1,8 @@
 -- One part after another: what the second is may depend on what stood first.
-use Rattle.std.proofs.Math.Path.{◌≡◌, refl, sym, ap, subst}
-use Rattle.std.proofs.Common.{◌∙◌, arith}
-use mathlib.Core.List.{List, ◌++◌, append_assoc}
-use Rattle.std.specs.Prelude.{Bool, true, ◌&&◌, ℕ, ◌+◌}
-use Rattle.std.proofs.Math.ListN.{length-append}
-use Rattle.codec.specs.Readings.{Reading, got, no, and_then, got_same, and_then-got, and_then-no}
-use Rattle.codec.specs.Codecs.{Codec, Bytes, Bounded, bytes-both, bytes-behind, and_left, and_right, and_both}
+use mathlib.Core.List.{List, ◌++◌}
+use Rattle.std.specs.Prelude.{Bool, ◌&&◌, ℕ}
+use Rattle.codec.specs.Readings.{Reading, got, and_then}
+use Rattle.codec.specs.Codecs.{Codec}
 
 module _ {A : Type 0} (c : Codec A) (P : A → Type 0) (d : (a : A) → Codec (P a)) where
   unfoldable pub dep_put : (a : A) × P a → List ℕ
@@ -17,65 +14,6 @@ module _ {A : Type 0} (c : Codec A) (P : A → Type 0) (d : (a : A) → Codec (P
   unfoldable pub dep_ok : (a : A) × P a → Bool
   dep_ok x = c.ok x.0 && (d x.0).ok x.1
 
-  pub dep-there : (x : (a : A) × P a) (r : List ℕ) → dep_ok x ≡ true → dep_get (dep_put x ++ r) ≡ got x r
-  unfolding dep_put dep_ok dep_get
-  dep-there x r h =
-      rw (append_assoc, c.there x.0 ((d x.0).put x.1 ++ r) (and_left _ _ h), (d x.0).there x.1 r (and_right (c.ok x.0) _ h)) refl
-
-  pub dep-whole : (x : (a : A) × P a) → dep_ok x ≡ true → Bytes (dep_put x)
-  unfolding dep_put dep_ok
-  dep-whole x h = bytes-both (c.whole x.0 (and_left _ _ h)) ((d x.0).whole x.1 (and_right (c.ok x.0) _ h))
-
-  pub dep-back : (bs : List ℕ) (x : (a : A) × P a) (r : List ℕ) → Bytes bs → dep_get bs ≡ got x r → (bs ≡ dep_put x ++ r) × (dep_ok x ≡ true)
-  unfolding dep_put dep_ok dep_get
-  dep-back bs x r h e =
-      let (a, s, p, q) = and_then-got (c.get bs) _ e in
-      let (b, t, u, v) = and_then-got ((d a).get s) _ q in
-      let (i, j) = got_same v in
-      let m = c.back bs a s h p in
-      let n = (d a).back s b t (bytes-behind (c.put a) s (subst Bytes m.0 h)) u in
-      subst (λ (y : (a : A) × P a). (bs ≡ (c.put y.0 ++ (d y.0).put y.1) ++ r) × ((c.ok y.0 && (d y.0).ok y.1) ≡ true)) i (
-        m.0 ∙ ap (λ (l : List ℕ). c.put a ++ l) (n.0 ∙ ap (λ (l : List ℕ). (d a).put b ++ l) j) ∙ sym (append_assoc (c.put a) ((d a).put b) r),
-        and_both m.1 n.1,
-      )
-
   unfoldable pub dep : Codec ((a : A) × P a)
   unfolding dep_put dep_get dep_ok
-  dep = record { put = dep_put; get = dep_get; ok = dep_ok; there = dep-there; whole = dep-whole; back = dep-back }
-
-  -- ---- how it is read
-
-  pub dep-no : {bs : List ℕ} {e : ℕ} → c.get bs ≡ no e → dep.get bs ≡ no e
-  unfolding dep dep_get
-  dep-no p = rw p refl
-
-  pub dep-on : {bs r : List ℕ} {a : A} → c.get bs ≡ got a r → dep.get bs ≡ and_then ((d a).get r) (λ b s. got (a, b) s)
-  unfolding dep dep_get
-  dep-on p = rw p refl
-
-  pub dep-out : {bs r : List ℕ} {a : A} {e : ℕ} → c.get bs ≡ got a r → (d a).get r ≡ no e → dep.get bs ≡ no e
-  unfolding dep dep_get
-  dep-out p q = rw (p, q) refl
-
-  pub dep-got : {bs r s : List ℕ} {a : A} {b : P a} → c.get bs ≡ got a r → (d a).get r ≡ got b s → dep.get bs ≡ got (a, b) s
-  unfolding dep dep_get
-  dep-got p q = rw (p, q) refl
-
-  -- ---- what can stand there, and its bounds
-
-  pub dep-ok : (a : A) (b : P a) → dep.ok (a, b) ≡ true → (c.ok a ≡ true) × ((d a).ok b ≡ true)
-  unfolding dep dep_ok
-  dep-ok a b h = (and_left _ _ h, and_right (c.ok a) _ h)
-
-  pub dep-bounded : {Q : ℕ → Type 0} {m n : ℕ} → Bounded Q m c → ((a : A) → Bounded Q n (d a)) → Bounded Q (m + n) dep
-  unfolding dep dep_put dep_get dep_ok
-  dep-bounded {Q} {m} {n} f g =
-      record {
-        room = λ x h.
-            let p = f.room x.0 (and_left _ _ h) in
-            let q = (g x.0).room x.1 (and_right (c.ok x.0) _ h) in
-            simp length-append (omega arith);
-        number = λ bs.
-            and_then-no Q (c.get bs) _ (f.number bs)
-            (λ a r. and_then-no Q ((d a).get r) _ ((g a).number r) (λ b s e p. absurd (let z : ◌≡◌ {A = ℕ} 0 1 = cc in omega arith)));
-      }
+  dep = record { put = dep_put; get = dep_get; ok = dep_ok }

@@ -1,6 +1,8 @@
 // The last part of a table: its code, and where the code of each mode begins (document 01, 'The code').
 // Promises: the number of instructions is exact, also beyond the table of 4,096; those that fit stand in the lent arrays, and an array with room for code that fits gets it whole.
 // Builds on code generation (emit) and on the layout of tables.
+#![tactic(auto)]
+
 ghost use Rattle.std.specs.Prelude.{◌≡◌, length};
 ghost use Rattle.coding.specs.Codings.{begun_from, Coded};
 

@@ -6,7 +6,7 @@ use Rattle.std.proofs.Math.ListN.{drop_of_length-le}
 use Rattle.std.proofs.Math.Seq.{drop-cons}
 use borrow.Author.Tests.{eq-eqb, ne_eqb}
 use Rattle.model.specs.Bytes.{same}
-use Rattle.text.specs.WordsLaws.{same→eq}
+use Rattle.text.proofs.WordsLaws.{same→eq}
 
 module _ (one other : List ℕ) (k : ℕ) where
   -- what is left decides

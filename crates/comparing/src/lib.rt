@@ -1,6 +1,8 @@
 // Whether two tables are the same, number for number, the unused parts of their arrays too.
 // Promises: the answer is its definition, true exactly of a table and itself (specs/Alike).
 // Builds on the tables and on text's laws of equal words.
+#![tactic(auto)]
+
 ghost use Rattle.std.specs.Prelude.{◌≡◌, ◌&&◌, eqb};
 ghost use Rattle.model.specs.Bytes.{same};
 ghost use Rattle.comparing.specs.Alike.{alike_counts, alike_names, alike_ports, alike_rows, alike};

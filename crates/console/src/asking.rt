@@ -5,7 +5,7 @@ use lines::{Part, numbers, values};
 
 // 1 compile, 2 read, 3 start, 4 tick, 5 next, 6 finish, 7 look, 0 for a line that is malformed; its last word so far; how many bytes it gives, its room,
 // count or task, how many values.
-#[derive(Drop)]
+#[derive(Clone, Copy)]
 pub struct Request {
     pub kind: u8,
     pub last: Part,

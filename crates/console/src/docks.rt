@@ -3,6 +3,8 @@ use super::asking::Request;
 use super::{looks, phrases};
 use emachine::{Machine, Ticked};
 use machine::Reaction;
+use std::io;
+use std::io::Write;
 
 // A machine, if one was started.
 #[derive(Drop)]
@@ -37,82 +39,113 @@ pub(super) fn none() -> Dock {
 }
 
 // start HEXFILE COUNT VALUES
-fn start<'b>(file: &[u8], count: u32, types: &'b [u32], words: &'b [u32]) -> Dock {
+fn start<'b>(
+    output: &mut impl Write,
+    file: &[u8],
+    count: u32,
+    types: &'b [u32],
+    words: &'b [u32],
+) -> io::Result<Dock> {
     let started = begin(file, count, types, words);
     let answer = started.answer;
     let machine = started.machine;
-    phrases::say(phrases::reaction(answer));
-    Dock {
+    phrases::say(output, phrases::reaction(answer))?;
+    Ok(Dock {
         made: !is_refused(answer),
         machine: machine,
-    }
+    })
 }
 
 // tick COUNT VALUES
-fn tick<'b>(machine: Machine, count: u32, types: &'b [u32], words: &'b [u32]) -> Machine {
+fn tick<'b>(
+    output: &mut impl Write,
+    machine: Machine,
+    count: u32,
+    types: &'b [u32],
+    words: &'b [u32],
+) -> io::Result<Machine> {
     let ticked = emachine::tick(machine, count, types, words);
     let answer = ticked.answer;
-    phrases::say(phrases::reaction(answer));
-    ticked.machine
+    phrases::say(output, phrases::reaction(answer))?;
+    Ok(ticked.machine)
 }
 
 // next
-fn next(machine: Machine) -> Machine {
+fn next(output: &mut impl Write, machine: Machine) -> io::Result<Machine> {
     let handed = emachine::next_task(machine);
     let answer = handed.answer;
-    phrases::say(phrases::turn(answer));
-    handed.machine
+    phrases::say(output, phrases::turn(answer))?;
+    Ok(handed.machine)
 }
 
 // finish TASK VALUES
-fn finish<'b>(machine: Machine, task: u32, types: &'b [u32], words: &'b [u32]) -> Machine {
+fn finish<'b>(
+    output: &mut impl Write,
+    machine: Machine,
+    task: u32,
+    types: &'b [u32],
+    words: &'b [u32],
+) -> io::Result<Machine> {
     let finished = emachine::finish(machine, task, types, words);
     let answer = finished.answer;
-    phrases::say(phrases::finishing(answer));
-    finished.machine
+    phrases::say(output, phrases::finishing(answer))?;
+    Ok(finished.machine)
 }
 
 // look
-fn look(machine: Machine) -> Machine {
+fn look(output: &mut impl Write, machine: Machine) -> io::Result<Machine> {
     let seen = emachine::look(machine);
     let at = seen.standing;
-    looks::say(at, &seen.table.roles, &seen.table.types, &seen.ports);
-    seen
+    looks::say(
+        output,
+        at,
+        &seen.table.roles,
+        &seen.table.types,
+        &seen.ports,
+    )?;
+    Ok(seen)
 }
 
 // The requests to a machine that was started.
-fn call<'b>(request: Request, types: &'b [u32], words: &'b [u32], machine: Machine) -> Machine {
+fn call<'b>(
+    output: &mut impl Write,
+    request: Request,
+    types: &'b [u32],
+    words: &'b [u32],
+    machine: Machine,
+) -> io::Result<Machine> {
     if request.kind == 4 {
-        return tick(machine, request.number, types, words);
+        return tick(output, machine, request.number, types, words);
     }
     if request.kind == 5 {
-        return next(machine);
+        return next(output, machine);
     }
     if request.kind == 6 {
-        return finish(machine, request.number, types, words);
+        return finish(output, machine, request.number, types, words);
     }
-    look(machine)
+    look(output, machine)
 }
 
 // The answer to a request; `none` where there is no machine.
 pub(super) fn answer<'b>(
+    output: &mut impl Write,
     request: Request,
     bytes: &[u8],
     types: &'b [u32],
     words: &'b [u32],
     dock: Dock,
-) -> Dock {
+) -> io::Result<Dock> {
     if request.kind == 3 {
-        return start(bytes, request.number, types, words);
+        return start(output, bytes, request.number, types, words);
     }
     if !dock.made {
-        phrases::say(phrases::none());
-        return dock;
+        phrases::say(output, phrases::none())?;
+        return Ok(dock);
     }
     let machine = dock.machine;
-    let behind = call(request, types, words, machine);
-    Dock {
+    let behind = call(output, request, types, words, machine)?;
+    Ok(Dock {
         made: true,
         machine: behind,
-    }
+    })
 }

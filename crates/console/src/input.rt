@@ -1,10 +1,10 @@
 // The lines of standard input, found in one buffer.
 use super::least;
-use libc::STDIN_FILENO;
+use std::io::Read;
 
 // What was found: nothing yet (0), a line (1), the end of the input (2); where that line stands in the buffer; what is held behind it, from a place to
 // another; whether that is the rest of a line whose beginning was too long, and is passed over.
-#[derive(Drop)]
+#[derive(Clone, Copy)]
 pub struct Place {
     pub found: u8,
     pub begin: usize,
@@ -74,26 +74,24 @@ fn shift(buffer: &mut [u8], from: usize, to: usize) -> usize {
     size
 }
 
-// More of the input behind what is held; how much stands there then, and nothing more at its end.
-fn fill(buffer: &mut [u8], size: usize) -> usize {
+// More of the input behind what is held; how much stands there then, and nothing more at its end or where a read fails.
+fn fill(input: &mut impl Read, buffer: &mut [u8], size: usize) -> usize {
     if buffer.len() <= size {
         return size;
     }
-    let got = libc::read(STDIN_FILENO, &mut buffer[size..]);
-    if got <= 0 {
-        return size;
+    match input.read(&mut buffer[size..]) {
+        Ok(n) => size + n,
+        Err(_) => size,
     }
-    let n = io::count(got, &buffer[size..]);
-    size + n
 }
 
 // No line ends in what is held. A buffer full of it is a line too long: an empty one stands for it, once.
-fn more(buffer: &mut [u8], from: usize, to: usize, over: bool) -> Place {
+fn more(input: &mut impl Read, buffer: &mut [u8], from: usize, to: usize, over: bool) -> Place {
     let size = shift(buffer, from, to);
     if size == buffer.len() {
         return front(line(over), 0, true);
     }
-    let end = fill(buffer, size);
+    let end = fill(input, buffer, size);
     if end <= size {
         return front(last(over, end), end, false);
     }
@@ -101,7 +99,7 @@ fn more(buffer: &mut [u8], from: usize, to: usize, over: bool) -> Place {
 }
 
 // The next line that ends in what is held; more of the input, if none does.
-pub(super) fn next(buffer: &mut [u8], before: Place) -> Place {
+pub(super) fn next(input: &mut impl Read, buffer: &mut [u8], before: Place) -> Place {
     let from = before.from;
     let to = least(before.to, buffer.len());
     let end = lines::find(&buffer[0..to], from, 10);
@@ -115,5 +113,5 @@ pub(super) fn next(buffer: &mut [u8], before: Place) -> Place {
             over: false,
         };
     }
-    more(buffer, from, to, before.over)
+    more(input, buffer, from, to, before.over)
 }

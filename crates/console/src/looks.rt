@@ -1,8 +1,9 @@
 // What look shows.
 use super::phrases;
 use calls::Standing;
-use libc::STDOUT_FILENO;
 use lines::saying;
+use std::io;
+use std::io::Write;
 
 // How many ports there are: those that have a role.
 fn count(roles: &[u32]) -> usize {
@@ -17,9 +18,9 @@ fn count(roles: &[u32]) -> usize {
 }
 
 // A label and a number.
-fn labelled(label: &[u8], number: u64) {
-    io::write_all(STDOUT_FILENO, label);
-    io::print_decimal(STDOUT_FILENO, number);
+fn labelled(output: &mut impl Write, label: &[u8], number: u64) -> io::Result<()> {
+    output.write_all(label)?;
+    write!(output, "{number}")
 }
 
 fn flag(is: bool) -> u64 {
@@ -29,20 +30,26 @@ fn flag(is: bool) -> u64 {
     0
 }
 
-fn stands(at: Standing) {
-    labelled(b"mode=", at.mode as u64);
-    labelled(b" count=", at.clock as u64);
-    labelled(b" remain=", at.remaining as u64);
-    labelled(b" stopped=", flag(at.stopped));
-    labelled(b" out=", at.out);
-    labelled(b" waiting=", at.waiting);
+fn stands(output: &mut impl Write, at: Standing) -> io::Result<()> {
+    labelled(output, b"mode=", at.mode as u64)?;
+    labelled(output, b" count=", at.clock as u64)?;
+    labelled(output, b" remain=", at.remaining as u64)?;
+    labelled(output, b" stopped=", flag(at.stopped))?;
+    labelled(output, b" out=", at.out)?;
+    labelled(output, b" waiting=", at.waiting)
 }
 
 // Where a machine stands, and its ports.
-pub(super) fn say<'a>(at: Standing, roles: &'a [u32], types: &'a [u32], ports: &'a [u32]) {
-    stands(at);
-    io::write_all(STDOUT_FILENO, b" ports=");
+pub(super) fn say<'a>(
+    output: &mut impl Write,
+    at: Standing,
+    roles: &'a [u32],
+    types: &'a [u32],
+    ports: &'a [u32],
+) -> io::Result<()> {
+    stands(output, at)?;
+    output.write_all(b" ports=")?;
     let mut out = [0u8; 8192];
     let end = saying::values(&mut out, 0, types, ports, count(roles));
-    phrases::send(&out, end);
+    phrases::send(output, &out, end)
 }

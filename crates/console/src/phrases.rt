@@ -1,11 +1,12 @@
 // The answers' words.
 use super::least;
-use libc::STDOUT_FILENO;
 use lines::saying;
 use machine::{Finishing, Reaction, Turn};
+use std::io;
+use std::io::Write;
 
 // A word, by its place in the list of them, and how many numbers stand behind it.
-#[derive(Drop)]
+#[derive(Clone, Copy)]
 pub struct Phrase {
     pub word: usize,
     pub numbers: u8,
@@ -79,48 +80,47 @@ pub(super) fn finishing(answer: Finishing) -> Phrase {
 }
 
 // The word that begins at a place of a list.
-fn word(list: &[u8], begin: usize) {
+fn word(output: &mut impl Write, list: &[u8], begin: usize) -> io::Result<()> {
     let end = lines::find(list, begin, 32);
     let from = least(begin, end);
-    io::write_all(STDOUT_FILENO, &list[from..end]);
+    output.write_all(&list[from..end])
 }
 
 // A blank and a number, where one is said.
-fn number(is_said: bool, number: u64) {
+fn number(output: &mut impl Write, is_said: bool, number: u64) -> io::Result<()> {
     if !is_said {
-        return;
+        return Ok(());
     }
     if number == NOBODY {
-        io::write_all(STDOUT_FILENO, b" -1");
-        return;
+        return output.write_all(b" -1");
     }
-    io::write_all(STDOUT_FILENO, b" ");
-    io::print_decimal(STDOUT_FILENO, number);
+    output.write_all(b" ")?;
+    write!(output, "{number}")
 }
 
-pub(super) fn say(phrase: Phrase) {
-    word(b"error ok refused fault task none", phrase.word);
-    number(phrase.numbers > 0, phrase.first);
-    number(phrase.numbers > 1, phrase.second);
-    io::write_all(STDOUT_FILENO, b"\n");
+pub(super) fn say(output: &mut impl Write, phrase: Phrase) -> io::Result<()> {
+    word(output, b"error ok refused fault task none", phrase.word)?;
+    number(output, phrase.numbers > 0, phrase.first)?;
+    number(output, phrase.numbers > 1, phrase.second)?;
+    output.write_all(b"\n")
 }
 
 // What stands in a buffer, and an LF.
-pub(super) fn send(out: &[u8], size: usize) {
+pub(super) fn send(output: &mut impl Write, out: &[u8], size: usize) -> io::Result<()> {
     let end = least(size, out.len());
-    io::write_all(STDOUT_FILENO, &out[0..end]);
-    io::write_all(STDOUT_FILENO, b"\n");
+    output.write_all(&out[0..end])?;
+    output.write_all(b"\n")
 }
 
-fn put_file(out: &mut [u8], bytes: &[u8], size: usize) {
+fn put_file(output: &mut impl Write, out: &mut [u8], bytes: &[u8], size: usize) -> io::Result<()> {
     let length = least(size, bytes.len());
     let end = saying::hex(out, 0, &bytes[0..length]);
-    io::write_all(STDOUT_FILENO, b"ok ");
-    send(out, end);
+    output.write_all(b"ok ")?;
+    send(output, out, end)
 }
 
 // A file, of the first bytes of a buffer.
-pub(super) fn file(bytes: &[u8], size: usize) {
+pub(super) fn file(output: &mut impl Write, bytes: &[u8], size: usize) -> io::Result<()> {
     let mut out = super::room();
-    put_file(&mut out, bytes, size);
+    put_file(output, &mut out, bytes, size)
 }

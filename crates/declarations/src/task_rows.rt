@@ -11,7 +11,7 @@ use super::mark;
 use fields::{Counted, Got};
 
 // Behind a task: the number of its inputs and of its outputs.
-#[derive(Drop)]
+#[derive(Clone, Copy)]
 struct Shares {
     pub bad: u8,
     pub next: usize,
@@ -20,7 +20,7 @@ struct Shares {
 }
 
 // The place behind the tasks, their number, and the numbers of all their inputs and outputs.
-#[derive(Drop)]
+#[derive(Clone, Copy)]
 pub struct Behind {
     pub bad: u8,
     pub next: usize,

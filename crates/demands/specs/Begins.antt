@@ -3,7 +3,7 @@ use Rattle.std.specs.Prelude.{ℕ, ◌≤◌, ◌≡◌, refl, Bool, true, false
 use Rattle.std.proofs.Common.{arith, sym, ◌∙◌, ap, subst}
 use Rattle.model.specs.Clock.{fits}
 use Rattle.file.specs.Files.{Answer, read, refused, decode}
-use Rattle.file.specs.Returned.{returned-sound}
+use Rattle.file.proofs.Returned.{returned-sound}
 use Rattle.file.specs.declared.ReadAnswer.TheVariants.{Read}
 use Rattle.machine.specs.Asks.{ticking}
 use Rattle.machine.specs.declared.Reaction.TheVariants.{Refused}
@@ -23,7 +23,8 @@ use Rattle.emachine.specs.declared.Ticked.{Ticked}
 use Rattle.emachine.specs.Machines.{board_in, machine_of, ticked_on}
 use Rattle.starting.specs.Starting as S
 use Rattle.starting.specs.Starting.{Started}
-use Rattle.machine.specs.Numbers.{one_of, start-answers}
+use Rattle.machine.specs.Numbers.{one_of}
+use Rattle.machine.proofs.Numbers.{start-answers}
 use Rattle.demands.specs.Uses.{Judges, Readable, means, number, refusal, Refuses, Faults, late_in, start_numbers, stopped, new_machine, blank_machine, One}
 
 -- ---- the verdict

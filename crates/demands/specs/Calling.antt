@@ -5,7 +5,7 @@ use Rattle.model.specs.Clock.{elapsed, fits}
 use Rattle.file.specs.Files.{decode}
 use Rattle.file.specs.Answers.{read_number, writes, written, write_number}
 use Rattle.file.specs.Bounds.{Between}
-use Rattle.file.specs.Numbers as Nu
+use Rattle.file.proofs.Numbers as Nu
 use Rattle.file.specs.declared.ReadAnswer.TheVariants.{Read}
 use Rattle.file.specs.declared.WriteAnswer.{WriteAnswer}
 use Rattle.file.specs.declared.WriteAnswer.TheVariants as Wr
@@ -20,8 +20,9 @@ use Rattle.machine.specs.declared.Finishing.TheVariants as F
 use Rattle.machine.specs.Answers.{Meaning}
 use Rattle.machine.specs.Calls as C
 use Rattle.machine.specs.Calls.{State}
-use Rattle.machine.specs.Leaves.{Leaves, tick-leaves, LeavesNext, next-leaves, LeavesFinish, finish-leaves}
-use Rattle.machine.specs.ClockLaws.{due-is}
+use Rattle.machine.specs.Leaves.{Leaves, LeavesNext, LeavesFinish}
+use Rattle.machine.proofs.Leaves.{tick-leaves, next-leaves, finish-leaves}
+use Rattle.machine.proofs.ClockLaws.{due-is}
 use Rattle.tables.specs.declared.Table.{Table}
 use Rattle.reading.specs.declared.Reading.{Reading}
 use Rattle.reading.specs.Readings.{reading_of}
@@ -35,11 +36,13 @@ use Rattle.prescribed.specs.declared.Compiled.{Compiled}
 use Rattle.prescribed.specs.declared.Compiled.TheVariants as W
 use Rattle.prescribed.specs.Compiles.{Compiling, file, refused, compile_of}
 use Rattle.prescribed.specs.Answers.{answered, buffered}
-use Rattle.prescribed.specs.Numbers.{Listed, refusal-numbers}
-use Rattle.prescribed.specs.Acceptance as A
+use Rattle.prescribed.specs.Numbers.{Listed}
+use Rattle.prescribed.proofs.Numbers.{refusal-numbers}
+use Rattle.prescribed.proofs.Acceptance as A
 use Rattle.prescribed.specs.Acceptance.{Answers}
 use Rattle.bridge.specs.LaterOnly as L
-use Rattle.machine.specs.Numbers.{one_of, TickAnswer, NextAnswer, FinishAnswer, tick-only, next-only, finish-only, tick-numbers, next-numbers, finish-numbers}
+use Rattle.machine.specs.Numbers.{one_of, TickAnswer, NextAnswer, FinishAnswer}
+use Rattle.machine.proofs.Numbers.{tick-only, next-only, finish-only, tick-numbers, next-numbers, finish-numbers}
 use Rattle.demands.specs.Uses.{Compiles, Reads, Writes, Serves, means, number, refusal, Refuses, Faults, late_in, numbers_of, stopped, One}
 
 -- ---- compile, read, write

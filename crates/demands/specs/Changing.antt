@@ -13,6 +13,7 @@ use Rattle.bridge.specs.Views.{stands}
 use Rattle.bridge.specs.Docked.{asks}
 use Rattle.bridge.specs.Sources.{Sourced, compiled-sourced}
 use Rattle.bridge.specs.PortsKept as K
+use Rattle.bridge.proofs.PortsKept as KLaws
 use Rattle.demands.specs.Uses.{Serves, Runs, Launch, module_in, rules}
 use Rattle.demands.specs.Terms.{word, standing, HandsOver, Sets, Senses, Fills, Rests}
 use Rattle.demands.specs.Joins.{made, keeps, aims, starts-so, state_at, Behind, behind, then, obeyed-answer}
@@ -61,7 +62,7 @@ module _ (l : Launch) (calls : List Ask) (answers : List Answer) (m : Machine) (
         finished = ap (λ (y : Machine). standing M y task) here.left_so ∙ sym (stands M s.aside s.store.out s.store.waiting s.store.finished here.near.held.neat task) ∙ d.finished;
         holds = after (outputs_of M task + i) ∙ d.holds;
       })
-      (K.output-kept M (keeps l) (aims l) l.count l.types l.words (starts-so l) calls a task i h)
+      (KLaws.output-kept M (keeps l) (aims l) l.count l.types l.words (starts-so l) calls a task i h)
 
   sources : Sourced M
   sources = compiled-sourced l.text (length l.before) (made l).content (made l).is
@@ -81,12 +82,12 @@ module _ (l : Launch) (calls : List Ask) (answers : List Answer) (m : Machine) (
         aims = d.by.aims;
         holds = after i ∙ d.by.holds ∙ sym (after d.by.update.what.source);
       })
-      (K.actuator-kept M (keeps l) (aims l) l.count l.types l.words (starts-so l) calls a sources i p)
+      (KLaws.actuator-kept M (keeps l) (aims l) l.count l.types l.words (starts-so l) calls a sources i p)
 
   pub input-changes : (task i : ℕ) → InputPort M task i → (word M n i ≡ word M m i) ⊎ Fills M (rules l calls) a x task
   input-changes task i p =
       carried i (λ d. let (k, q) = obeyed-answer (asks M a s).answer d.reacts in record { steps = k; reacts = on.0 ∙ q; releases = d.releases })
-      (K.input-kept M (keeps l) (aims l) l.count l.types l.words (starts-so l) calls a task i p)
+      (KLaws.input-kept M (keeps l) (aims l) l.count l.types l.words (starts-so l) calls a task i p)
 
   pub sensor-changes : (i : ℕ) → SensorPort M i → (word M n i ≡ word M m i) ⊎ Senses M a x n i
   sensor-changes i p =
@@ -94,11 +95,11 @@ module _ (l : Launch) (calls : List Ask) (answers : List Answer) (m : Machine) (
       (λ d.
       let (k, q) = obeyed-answer (asks M a s).answer d.reacts in
       record { steps = k; reacts = on.0 ∙ q; count = d.at; types = d.types; words = d.words; called = d.called; holds = after i ∙ d.holds })
-      (K.sensor-kept M (keeps l) (aims l) l.count l.types l.words (starts-so l) calls a i p)
+      (KLaws.sensor-kept M (keeps l) (aims l) l.count l.types l.words (starts-so l) calls a i p)
 
   pub between : ((steps : ℕ) → x ≢ ticking (Obeyed steps)) → Rests m n
   between unless =
-      let r = K.between M a s (λ k e. unless k (on.0 ∙ e)) in
+      let r = KLaws.between M a s (λ k e. unless k (on.0 ∙ e)) in
       let p = on.1 in
       let q = sym here.left_so in
       record {

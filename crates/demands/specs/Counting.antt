@@ -8,7 +8,8 @@ use Rattle.model.specs.Clock.{Instant, early, due, missed, judged, elapsed, fits
 use Rattle.model.specs.Modules.{Module}
 use Rattle.timing.specs.Calls.{Reply, reacted, View, ask, replies}
 use Rattle.timing.specs.Lates.{ending_next}
-use Rattle.timing.specs.Counts.{ended_out, if_reacted, releases_in, endings_in, count_law}
+use Rattle.timing.specs.Counts.{ended_out, if_reacted, releases_in, endings_in}
+use Rattle.timing.proofs.Counts.{count_law}
 use Rattle.timing.specs.Docks.{reply_to}
 use Rattle.machine.specs.Asks.{Ask, tick, Answer, ticking, turning, finishing}
 use Rattle.machine.specs.declared.Reaction.{Reaction}
@@ -22,7 +23,7 @@ use Rattle.machine.specs.Store.{Store, reaction}
 use Rattle.machine.specs.Calls as C
 use Rattle.machine.specs.Calls.{State, came_to, sensed, by_instant}
 use Rattle.machine.specs.Counts.{history, opened}
-use Rattle.machine.specs.SoundLaws.{started-count-law}
+use Rattle.machine.proofs.SoundLaws.{started-count-law}
 use Rattle.machine.specs.Starts.{fresh, start}
 use Rattle.tables.specs.declared.Table.{Table}
 use Rattle.ecode.specs.Sound.{sound-holds}
@@ -32,9 +33,9 @@ use Rattle.emachine.specs.Machines.{board_in, state_in}
 use Rattle.boards.specs.Agreement.{board-is}
 use Rattle.starting.specs.Starting.{Started}
 use Rattle.bridge.specs.Boards.{board}
-use Rattle.bridge.specs.Faithful as Fa
+use Rattle.bridge.proofs.Faithful as Fa
 use Rattle.bridge.specs.Promises.{DueNow}
-use Rattle.bridge.specs.CountKept.{out-counted}
+use Rattle.bridge.proofs.CountKept.{out-counted}
 use Rattle.demands.specs.Uses.{Serves, Runs, Launch, Readable, module_in, first, rules, new_machine, steps_from}
 use Rattle.demands.specs.Terms.{owed_after, first_owed, if_obeyed, released_in, ended_in, releases_so_far, terminations_so_far}
 use Rattle.demands.specs.Joins.{all, same-board, keeps, begun-is, starts-so, state_at, Behind, behind, then, obeyed-answer}

@@ -47,8 +47,10 @@ use Rattle.accepted.specs.Compiled.{compiled-accepted, compiled-aimed, compiled-
 use Rattle.bridge.specs.Boards.{board, board-readings}
 use Rattle.bridge.specs.Views.{stands}
 use Rattle.bridge.specs.Docked.{asks, fault_by, stop_by}
-use Rattle.bridge.specs.Faithful.{machine_answers, machine_leaves, Started, begun, faithful}
-use Rattle.bridge.specs.Beside.{Beside, beside}
+use Rattle.bridge.specs.Faithful.{machine_answers, machine_leaves, Started, begun}
+use Rattle.bridge.proofs.Faithful.{faithful}
+use Rattle.bridge.specs.Beside.{Beside}
+use Rattle.bridge.proofs.Beside.{beside}
 use Rattle.demands.specs.Uses.{Serves, Runs, Launch, number, Refuses, module_in, first, rules}
 use Rattle.demands.specs.Terms.{Halted, Same}
 

@@ -22,7 +22,7 @@ use Rattle.starting.specs.Starting.{Started}
 use Rattle.prescribed.specs.Tables.{table_of}
 use Rattle.prescribed.specs.declared.Compiled.TheVariants.{Written}
 use Rattle.accepted.specs.Compiled.{compiled-accepted, compiled-sound}
-use Rattle.bridge.specs.Faithful as Fa
+use Rattle.bridge.proofs.Faithful as Fa
 use Rattle.demands.specs.Uses.{Compiles, Runs, Midway, Launch, Launched}
 use Rattle.demands.specs.Joins as J
 use Rattle.demands.specs.Calling.{call-one}

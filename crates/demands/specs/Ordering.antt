@@ -12,7 +12,8 @@ use Rattle.emachine.specs.declared.Ticked.{Ticked}
 use Rattle.emachine.specs.Machines.{board_in, machine_of}
 use Rattle.bridge.specs.Boards.{board}
 use Rattle.bridge.specs.Docked.{asks}
-use Rattle.bridge.specs.OrderKept.{Seen, seen_in, noted, machine_log, order-kept}
+use Rattle.bridge.specs.OrderKept.{Seen, seen_in, noted, machine_log}
+use Rattle.bridge.proofs.OrderKept.{order-kept}
 use Rattle.demands.specs.Uses.{Serves, Runs, Launch, module_in, first}
 use Rattle.demands.specs.Terms.{seen, log}
 use Rattle.demands.specs.Joins.{one, same-board, keeps, begun-is, starts-so, state_at, behind}

@@ -11,14 +11,15 @@ use Rattle.timing.specs.Accepted.{Accepted}
 use Rattle.timing.specs.Orders.{among}
 use Rattle.timing.specs.Ticks.{Due, Means, each-means}
 use Rattle.timing.specs.Lates.{unfinished, first_late, ending_next, PromptAt, Prompt}
-use Rattle.timing.specs.Held.{Held, held-call}
-use Rattle.timing.specs.Counts.{same-many}
+use Rattle.timing.specs.Held.{Held}
+use Rattle.timing.proofs.Held.{held-call}
+use Rattle.timing.proofs.Counts.{same-many}
 use Rattle.timing.specs.Docks.{reply_to}
 use Rattle.machine.specs.Asks.{Ask, tick, next, finish, Answer, ticking, turning, finishing}
 use Rattle.machine.specs.declared.Reaction.TheVariants.{Obeyed, Idle, Refused, Late, Fault}
 use Rattle.machine.specs.declared.Turn.TheVariants as T
 use Rattle.machine.specs.declared.Finishing.TheVariants as F
-use Rattle.bridge.specs.ReleasesKept.{grown, begins}
+use Rattle.bridge.proofs.ReleasesKept.{grown, begins}
 use Rattle.demands.specs.Terms.{finishes, owing, still_owed, first_owed}
 
 inside : (l : List Standing) (t : ℕ) → (get_or l t idle ≢ idle) → t < length l

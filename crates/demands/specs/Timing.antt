@@ -10,9 +10,10 @@ use Rattle.timing.specs.Calls.{Reply, reacted, View, Said, ask, replies, reading
 use Rattle.timing.specs.Accepted.{Accepted, ports}
 use Rattle.timing.specs.Lates.{first_late, ending_next, in-time-reacts, Prompt}
 use Rattle.timing.specs.Orders.{among}
-use Rattle.timing.specs.Held.{start-held}
-use Rattle.timing.specs.Counts.{start-many}
-use Rattle.timing.specs.Causes.{Vary, Calm, no-trace}
+use Rattle.timing.proofs.Held.{start-held}
+use Rattle.timing.proofs.Counts.{start-many}
+use Rattle.timing.specs.Causes.{Vary, Calm}
+use Rattle.timing.proofs.Causes.{no-trace}
 use Rattle.timing.specs.Docks.{Dock, reply_to}
 use Rattle.machine.specs.Asks.{Ask, tick, Answer, ticking}
 use Rattle.machine.specs.declared.Reaction.TheVariants.{Obeyed, Late, Fault}
@@ -26,12 +27,15 @@ use Rattle.emachine.specs.Machines.{state_in, machine_of}
 use Rattle.bridge.specs.Boards.{board}
 use Rattle.bridge.specs.Views.{stand_of, row_of, Fitting, stands}
 use Rattle.bridge.specs.Docked.{asks, dock_of, Held}
-use Rattle.bridge.specs.Faithful as Fa
+use Rattle.bridge.proofs.Faithful as Fa
 use Rattle.bridge.specs.Faithful.{machine_answers, begun}
-use Rattle.bridge.specs.Beside.{Beside, one-call, all-calls, start-beside}
-use Rattle.bridge.specs.Promises as P
-use Rattle.bridge.specs.Promises.{DueNow, standing_in, tasks-same, ports-same, Unfaulted}
-use Rattle.bridge.specs.ReleasesKept.{waits, begins, machine-newly}
+use Rattle.bridge.specs.Beside.{Beside}
+use Rattle.bridge.proofs.Beside.{one-call, all-calls, start-beside}
+use Rattle.bridge.proofs.Promises as P
+use Rattle.bridge.specs.Promises.{DueNow, standing_in, Unfaulted}
+use Rattle.bridge.proofs.Promises.{tasks-same, ports-same}
+use Rattle.bridge.specs.ReleasesKept.{waits}
+use Rattle.bridge.proofs.ReleasesKept.{begins, machine-newly}
 use Rattle.demands.specs.Uses.{Serves, Runs, Launch, module_in, first, rules, means, number, refusal, Faults, stopped}
 use Rattle.demands.specs.Terms.{Same, Alike, InTime, owed_first, owed_after, first_owed}
 use Rattle.demands.specs.Calling.{fault-is, fault-names, number_small}

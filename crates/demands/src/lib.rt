@@ -1,6 +1,8 @@
 // The three demands over the contracts of the functions that a host calls, in one place: specs/Demands, with the words of specs/Uses and specs/Terms.
 // Promises: each function below, and so each function of the toolchain that it calls, meets its relation of specs/Uses; specs/Demands has one theorem for each sentence of the demands over these relations.
 // Builds on tdl, ecode, starting and emachine, and on bridge for the theorems.
+#![tactic(auto)]
+
 ghost use Rattle.machine.specs.Asks.{tick as ticks, next as nexts, finish as finishes, ticking, turning, finishing};
 ghost use Rattle.starting.specs.Starting.{Started};
 ghost use Rattle.demands.specs.Uses.{Compiles, Reads, Writes, Judges, Serves, Looks, CountsOut};

@@ -6,8 +6,8 @@ use Rattle.std.proofs.lemmas.Bool.{lt-leb}
 use Rattle.file.specs.Tables.{Table}
 use Rattle.file.specs.Files.{Answer, read, refused, decode, encode, sound}
 use Rattle.file.specs.Answers.{writes, written}
-use Rattle.file.specs.RoundTrips.{decode-encode}
-use Rattle.file.specs.Returned.{returned-sound}
+use Rattle.file.proofs.RoundTrips.{decode-encode}
+use Rattle.file.proofs.Returned.{returned-sound}
 use Rattle.file.specs.declared.ReadAnswer.TheVariants.{Read, Refused}
 use Rattle.file.specs.declared.WriteAnswer.TheVariants.{Wrote, Refused as WriteRefused}
 use Rattle.tables.specs.declared.Table.{Table as Plain}

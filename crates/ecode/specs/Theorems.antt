@@ -5,8 +5,8 @@ use Rattle.codec.specs.Codecs.{Bytes}
 use Rattle.file.specs.Tables.{Table}
 use Rattle.file.specs.Files.{read, decode, encode, sound}
 use Rattle.file.specs.Answers.{writes, written}
-use Rattle.file.specs.RoundTrips.{decode-encode, encode-decode}
-use Rattle.file.specs.Returned.{table-once}
+use Rattle.file.proofs.RoundTrips.{decode-encode, encode-decode}
+use Rattle.file.proofs.Returned.{table-once}
 use Rattle.file.specs.declared.ReadAnswer.TheVariants.{Read}
 use Rattle.tables.specs.declared.Table.{Table as Plain}
 use Rattle.layout.specs.Plain.{struct_of}

@@ -2,6 +2,8 @@
 // Promises: any bytes are read as the file's definition says; a table is sound if and only if the reader can return it; a sound table is
 // written as its file, and what is refused leaves the buffer as it was.
 // Builds on reading, filing and comparing, and on encoding for the theorem that ties them.
+#![tactic(auto)]
+
 ghost use Rattle.std.specs.Prelude.{◌≡◌, true, ◌++◌, ◌≤◌, length, drop};
 ghost use Rattle.file.specs.Files.{decode};
 ghost use Rattle.file.specs.Answers.{read_number, writes, written as written_to, write_number};

@@ -1,8 +1,11 @@
 // Files read and written again: the smallest, the one of bench case 8, one at the limit of every room, and a damaged one for each refusal.
 // Promises: what it prints is compared with `stdout`; the answers are those of ecode.
 // Builds on ecode.
+#![tactic(auto)]
+
 use file::{ReadAnswer, WriteAnswer};
-use libc::STDOUT_FILENO;
+use std::io;
+use std::io::Write;
 use tables::Table;
 
 mod limits;
@@ -23,10 +26,10 @@ const BIKES: [u8; 166] = [
     255, 255, 255, 5, 0, 0, 0, 0, 255, 255, 255, 255,
 ];
 
-fn line(text: &[u8], number: u64) {
-    io::write_all(STDOUT_FILENO, text);
-    io::print_decimal(STDOUT_FILENO, number);
-    io::write_all(STDOUT_FILENO, b"\n");
+fn line(output: &mut impl Write, text: &[u8], number: u64) -> io::Result<()> {
+    output.write_all(text)?;
+    write!(output, "{number}")?;
+    output.write_all(b"\n")
 }
 
 // Whether a buffer begins with some bytes.
@@ -42,66 +45,68 @@ fn begins<'a>(bytes: &'a [u8], buffer: &'a [u8]) -> bool {
     true
 }
 
-fn compare<'a>(bytes: &'a [u8], buffer: &'a [u8]) {
+fn compare<'a>(output: &mut impl Write, bytes: &'a [u8], buffer: &'a [u8]) -> io::Result<()> {
     if begins(bytes, buffer) {
-        io::write_all(STDOUT_FILENO, b"the same bytes\n");
+        output.write_all(b"the same bytes\n")
     } else {
-        io::write_all(STDOUT_FILENO, b"other bytes\n");
+        output.write_all(b"other bytes\n")
     }
 }
 
-fn rewrite(t: Table, bytes: &[u8]) {
+fn rewrite(output: &mut impl Write, t: Table, bytes: &[u8]) -> io::Result<()> {
     let mut buffer = [7u8; 71364];
     let answer = ecode::write(t, &mut buffer);
     match answer {
-        WriteAnswer::Wrote(n) => line(b"wrote ", n as u64),
-        WriteAnswer::Refused(n) => line(b"refused ", n as u64),
+        WriteAnswer::Wrote(n) => line(output, b"wrote ", n as u64)?,
+        WriteAnswer::Refused(n) => line(output, b"refused ", n as u64)?,
     }
-    compare(bytes, &buffer);
+    compare(output, bytes, &buffer)
 }
 
-fn show(bytes: &[u8]) {
+fn show(output: &mut impl Write, bytes: &[u8]) -> io::Result<()> {
     let r = ecode::read(bytes);
     let answer = r.answer;
     let table = r.table;
     match answer {
         ReadAnswer::Read => {
-            line(b"read ", bytes.len() as u64);
-            rewrite(table, bytes);
+            line(output, b"read ", bytes.len() as u64)?;
+            rewrite(output, table, bytes)
         }
-        ReadAnswer::Refused(n) => line(b"refused ", n as u64),
+        ReadAnswer::Refused(n) => line(output, b"refused ", n as u64),
     }
 }
 
-fn show_limits() {
+fn show_limits(output: &mut impl Write) -> io::Result<()> {
     let mut file = [0u8; 71364];
     let n = limits::fill(&mut file);
     if n <= 71364 {
-        show(&file[0..n]);
+        show(output, &file[0..n])?;
     }
+    Ok(())
 }
 
-fn show_damaged() {
+fn show_damaged(output: &mut impl Write) -> io::Result<()> {
     let mut file = SMALLEST;
-    show(&file[0..76]);
+    show(output, &file[0..76])?;
     file[4] = 2;
-    show(&file);
+    show(output, &file)?;
     file[4] = 1;
     file[31] = 6;
-    show(&file);
+    show(output, &file)?;
     file[31] = 5;
     file[76] = 0;
-    show(&file);
+    show(output, &file)?;
     file[76] = 255;
     file[72] = 5;
-    show(&file);
+    show(output, &file)
 }
 
-fn main() {
+fn main(rt: HostRuntime) -> io::Result<()> {
+    let mut output = rt.stdout();
     let smallest = SMALLEST;
-    show(&smallest);
+    show(&mut output, &smallest)?;
     let bikes = BIKES;
-    show(&bikes);
-    show_limits();
-    show_damaged();
+    show(&mut output, &bikes)?;
+    show_limits(&mut output)?;
+    show_damaged(&mut output)
 }

@@ -2,6 +2,8 @@
 // Promises: every call is its definition (document 01, 'The machine'), for every record, one that no start made included: the answer, its number in
 // document 01, and every field.
 // Builds on the tables, on the calls of machine as definitions and of calls as code.
+#![tactic(auto)]
+
 ghost use Rattle.std.specs.Prelude.{◌≡◌};
 ghost use Rattle.machine.specs.Answers.{reaction_means, turn_means, finishing_means};
 ghost use Rattle.machine.specs.Calls.{tick as tick_of, next_task, finish as finish_of, look as look_of, tasks_out};

@@ -10,7 +10,7 @@ ghost use Rattle.emit.specs.Edges.{never, due_by, Edge, Edges};
 pub(crate) const UNUSED: usize = 4294967295;
 
 // What an activity is asked for at an instant.
-#[derive(Drop)]
+#[derive(Clone, Copy)]
 pub(crate) enum Kind {
     Termination,
     Update,
@@ -19,7 +19,7 @@ pub(crate) enum Kind {
 }
 
 // The place of the next instruction, and the soonest slot end ahead.
-#[derive(Drop)]
+#[derive(Clone, Copy)]
 pub(crate) struct Walk {
     pub pc: usize,
     pub soon: usize,

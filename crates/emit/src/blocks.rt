@@ -9,7 +9,7 @@ ghost use Rattle.emit.specs.Edges.{Edges};
 use super::activities::{Kind, UNUSED, Walk, ahead, mark, put, run};
 
 // A mode: its period, its first activity's row, how many activities of each kind it has, its first driver.
-#[derive(Drop)]
+#[derive(Clone, Copy)]
 pub(crate) struct Frame {
     pub period: usize,
     pub row: usize,

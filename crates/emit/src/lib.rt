@@ -1,6 +1,8 @@
 // The code of a module's modes, from flat rows of numbers (document 01, 'The code').
 // Promises: the number of instructions is exact, also beyond the table of 4,096; those that fit stand in the table, in rows of 3.
 // Builds on cells and on the definitions of timing.
+#![tactic(auto)]
+
 ghost use Rattle.std.specs.Prelude.{◌≡◌, min, ◌<◌};
 ghost use Rattle.emit.specs.Rows.{place_in, Generated};
 ghost use Rattle.emit.specs.Frames.{frame_by, Framed};

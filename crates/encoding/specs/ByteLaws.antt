@@ -1,7 +1,8 @@
 -- Whatever the arrays of a table hold, what is written from them is bytes.
 use Rattle.std.specs.Prelude.{ℕ, zero, suc, ◌+◌, ◌-◌, ◌*◌, ◌/◌, ◌%◌, ◌<◌, ◌≡◌, refl, Bool, true, false, cond, List, [], ◌∷◌, eqb, ltb, get_or, take}
 use Rattle.std.proofs.Common.{arith, subst, ltb-true}
-use Rattle.codec.specs.Codecs.{Bytes, no_bytes, bytes-both, and_left, and_right}
+use Rattle.codec.specs.Codecs.{Bytes}
+use Rattle.codec.proofs.Codecs.{no_bytes, bytes-both, and_left, and_right}
 use Rattle.tables.specs.declared.Table.{Table as Plain}
 use Rattle.file.specs.Parts.{all_in}
 use Rattle.writing.specs.Puts.{parts}

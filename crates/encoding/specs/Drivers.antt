@@ -6,11 +6,15 @@ use Rattle.std.specs.Prelude.{◌≡◌, refl, true, cond, eqb}
 use Rattle.std.proofs.Math.Path.{sym, ap, ap₂}
 use mathlib.Core.List.{List, [], ◌++◌, append-nil}
 use Rattle.std.proofs.Math.ListN.{length, get_or}
-use Rattle.codec.specs.Numbers.{byte, be, be-below}
-use Rattle.codec.specs.Sequences.{dep, dep_put, dep-ok}
-use Rattle.codec.specs.Views.{shape, shape-ok, view, view_put}
+use Rattle.codec.specs.Numbers.{byte, be}
+use Rattle.codec.proofs.Numbers.{be-below}
+use Rattle.codec.specs.Sequences.{dep, dep_put}
+use Rattle.codec.proofs.Sequences.{dep-ok}
+use Rattle.codec.specs.Views.{shape, view, view_put}
+use Rattle.codec.proofs.Views.{shape-ok}
 use Rattle.codec.specs.Tags.{enum}
-use Rattle.codec.specs.Lists.{list, list-ok}
+use Rattle.codec.specs.Lists.{list}
+use Rattle.codec.proofs.Lists.{list-ok}
 use Rattle.model.specs.Rooms.{port_room, driver_room}
 use Rattle.model.specs.Instructions.{Driver, updates, releases, terminates, no_driver}
 use Rattle.file.specs.Parts.{count}
@@ -30,18 +34,18 @@ two_is n h = let l = be-below 2 n h in pair_is n (omega arith)
 -- the rest of a driver that can stand in a file can
 update-ok : (source target : ℕ) → driver.ok (updates source target) ≡ true → ((be 2).ok source ≡ true) × ((be 2).ok target ≡ true)
 unfolding driver driver_rest
-update-ok source target h = dep-ok _ _ _ source target (dep-ok _ _ _ updating (source, target) (shape-ok _ _ _ _ _ (updates source target) h)).1
+update-ok source target h = dep-ok _ _ _ source target (dep-ok _ _ _ updating (source, target) (shape-ok _ _ _ (updates source target) h)).1
 
 release-ok : (task : ℕ) (sources : List ℕ) → driver.ok (releases task sources) ≡ true
     → ((be 2).ok task ≡ true) × ((k : ℕ) → k < length sources → (be 2).ok (get_or sources k 0) ≡ true)
 unfolding driver driver_rest
 release-ok task sources h =
-    let (p, q) = dep-ok _ _ _ task sources (dep-ok _ _ _ releasing (task, sources) (shape-ok _ _ _ _ _ (releases task sources) h)).1 in
+    let (p, q) = dep-ok _ _ _ task sources (dep-ok _ _ _ releasing (task, sources) (shape-ok _ _ _ (releases task sources) h)).1 in
     (p, many-ok-at (be 2) sources 0 (list-ok _ _ sources q).1)
 
 terminate-ok : (task : ℕ) → driver.ok (terminates task) ≡ true → (be 2).ok task ≡ true
 unfolding driver driver_rest
-terminate-ok task h = (dep-ok _ _ _ terminating task (shape-ok _ _ _ _ _ (terminates task) h)).1
+terminate-ok task h = (dep-ok _ _ _ terminating task (shape-ok _ _ _ (terminates task) h)).1
 
 -- what the codec writes
 update-put : (source target : ℕ) → driver.put (updates source target) ≡ byte.put 3 ++ ((be 2).put source ++ (be 2).put target)

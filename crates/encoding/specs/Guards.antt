@@ -4,16 +4,18 @@ use Rattle.std.proofs.Common.{add-zero, arith, ap, ◌∙◌, subst, ne_eqb, eqb
 use Rattle.std.specs.Prelude.{◌≡◌, refl, Bool, true, false, cond, ◌&&◌, ◌||◌, T, eqb, length, get_or}
 use Rattle.std.proofs.Math.Path.{sym, ap₂}
 use mathlib.Core.List.{List, [], ◌∷◌, ◌++◌}
-use Rattle.codec.specs.Codecs.{and_left}
+use Rattle.codec.proofs.Codecs.{and_left}
 use Rattle.codec.specs.Numbers.{byte, be}
-use Rattle.codec.specs.Sequences.{dep, dep_put, dep-ok}
-use Rattle.codec.specs.Views.{shape, shape-ok, view, view_put}
+use Rattle.codec.specs.Sequences.{dep, dep_put}
+use Rattle.codec.proofs.Sequences.{dep-ok}
+use Rattle.codec.specs.Views.{shape, view, view_put}
+use Rattle.codec.proofs.Views.{shape-ok}
 use Rattle.codec.specs.Tags.{enum}
 use Rattle.codec.specs.Lists.{list}
 use Rattle.model.specs.Bytes.{bytes, same, place_in}
 use Rattle.model.specs.Rooms.{argument_room, guard_room}
 use Rattle.model.specs.Values.{int, function_names}
-use Rattle.text.specs.WordsLaws.{same→eq}
+use Rattle.text.proofs.WordsLaws.{same→eq}
 use Rattle.file.specs.Tables.{Argument, port, fixed, GuardRow}
 use Rattle.file.specs.Parts.{count, type, value}
 use Rattle.file.specs.Names.{name}
@@ -82,11 +84,11 @@ fixed-put t w = refl
 
 port-ok : (p : ℕ) → argument.ok (port p) ≡ true → (be 2).ok p ≡ true
 unfolding argument argument_rest
-port-ok p h = (dep-ok _ _ _ of_port p (shape-ok _ _ _ _ _ (port p) h)).1
+port-ok p h = (dep-ok _ _ _ of_port p (shape-ok _ _ _ (port p) h)).1
 
 fixed-ok : (t w : ℕ) → argument.ok (fixed t w) ≡ true → (type.ok t ≡ true) × ((value t).ok w ≡ true)
 unfolding argument argument_rest
-fixed-ok t w h = dep-ok _ _ _ t w (dep-ok _ _ _ of_value (t, w) (shape-ok _ _ _ _ _ (fixed t w) h)).1
+fixed-ok t w h = dep-ok _ _ _ t w (dep-ok _ _ _ of_value (t, w) (shape-ok _ _ _ (fixed t w) h)).1
 
 argument_is : (a : Argument) → argument.ok a ≡ true → argument_in (get_or (argument_cells a) 0 0) (get_or (argument_cells a) 1 0) ≡ argument.put a
 unfolding argument_in

@@ -4,9 +4,12 @@ use Rattle.std.proofs.Common.{arith, ◌∙◌, leb-true, ltb-true}
 use Rattle.std.proofs.Math.Path.{refl, sym, ap, ap₂}
 use mathlib.Core.List.{List, [], ◌++◌, map}
 use Rattle.std.proofs.Math.ListN.{get_or, length-map}
-use Rattle.codec.specs.Numbers.{byte, be, be-below}
-use Rattle.codec.specs.Sequences.{dep, dep_put, dep-ok}
-use Rattle.codec.specs.Views.{check, check-ok, shape, shape-ok, view, view_put}
+use Rattle.codec.specs.Numbers.{byte, be}
+use Rattle.codec.proofs.Numbers.{be-below}
+use Rattle.codec.specs.Sequences.{dep, dep_put}
+use Rattle.codec.proofs.Sequences.{dep-ok}
+use Rattle.codec.specs.Views.{check, shape, view, view_put}
+use Rattle.codec.proofs.Views.{check-ok, shape-ok}
 use Rattle.model.specs.Rooms.{mode_room, code_room}
 use Rattle.model.specs.Instructions.{Instr, return}
 use Rattle.file.specs.Tables.{ModeRow}
@@ -32,7 +35,7 @@ four_is n h = let l = be-below 4 n h in quad_is n (omega arith)
 mode-ok : (m : ModeRow) → mode.ok m ≡ true → (name.ok m.name ≡ true) × (m.start ≤ 1) × ((be 4).ok m.period ≡ true) × ((be 4).ok m.begin ≡ true)
 unfolding mode
 mode-ok m h =
-    let (p, r) = dep-ok _ _ _ m.name (m.start, (m.period, m.begin)) (shape-ok _ _ _ _ _ m h) in
+    let (p, r) = dep-ok _ _ _ m.name (m.start, (m.period, m.begin)) (shape-ok _ _ _ m h) in
     let (q, s) = dep-ok _ _ _ m.start (m.period, m.begin) r in
     let (u, v) = dep-ok _ _ _ m.period m.begin s in
     (p, leb-true m.start 1 (check-ok _ _ _ _ q).0, (check-ok _ _ _ _ u).1, v)
@@ -71,7 +74,7 @@ instruction-ok : (i : Instr) → instruction.ok i ≡ true → ((triple_of i).0 
 unfolding instruction triple word
 instruction-ok i h =
     let x = triple_of i in
-    let (p, r) = dep-ok _ _ _ x.0 x.1 (shape-ok _ _ _ _ _ i h) in
+    let (p, r) = dep-ok _ _ _ x.0 x.1 (shape-ok _ _ _ i h) in
     let (u, v) = dep-ok _ _ _ x.1.0 x.1.1 r in
     (ltb-true x.0 8 (check-ok _ _ _ _ p).0, (check-ok _ _ _ _ u).1, (check-ok _ _ _ _ v).1)
 

@@ -3,11 +3,14 @@ use Rattle.std.specs.Prelude.{ℕ, zero, suc, ◌+◌, ◌*◌, ◌≤◌, ◌<�
 use Rattle.std.proofs.Common.{add-zero, arith, sym, ap, ap₂, ◌∙◌, subst, leb-true}
 use Rattle.std.proofs.Math.Seq.{take-length}
 use Rattle.codec.specs.Numbers.{byte}
-use Rattle.codec.specs.Views.{check, check-ok, view, view_put}
-use Rattle.codec.specs.Lists.{list, list-ok}
+use Rattle.codec.specs.Views.{check, view, view_put}
+use Rattle.codec.proofs.Views.{check-ok}
+use Rattle.codec.specs.Lists.{list}
+use Rattle.codec.proofs.Lists.{list-ok}
 use Rattle.model.specs.Modules.{each}
 use Rattle.model.specs.Rooms.{name_room}
 use Rattle.file.specs.Names.{name}
+use Rattle.file.proofs.Names.{name-lawful}
 use Rattle.layout.specs.Rows.{name_cells, names, rows}
 use Rattle.layout.specs.Cells.{rows-cell, each_width, each_part}
 use Rattle.writing.specs.Puts.{parts}
@@ -72,7 +75,7 @@ name_in_lem cells row w good is =
     let few = name-most w good in
     let part : ℕ → List ℕ = λ k. byte_of (cell cells (row + 1 + k)) in
     let size : cell cells row ≡ length w = ap (cell cells) (sym (add-zero row)) ∙ is 0 (omega arith) in
-    let below : (k : ℕ) → get_or w k 0 < 256 = λ k. subst (λ (l : List ℕ). get_or l (suc k) 0 < 256) (name-cells w) ((name.whole w good).below (suc k)) in
+    let below : (k : ℕ) → get_or w k 0 < 256 = λ k. subst (λ (l : List ℕ). get_or l (suc k) 0 < 256) (name-cells w) ((name-lawful.whole w good).below (suc k)) in
     let shown : (k : ℕ) → k < length w → part k ≡ byte.put (get_or w k 0) =
     λ k h. let e : row + 1 + k ≡ row + suc k = omega arith in ap byte_of (ap (cell cells) e ∙ is (suc k) (omega arith)) ∙ byte-is (get_or w k 0) (below k) in
     ap (λ (n : ℕ). byte_of n ++ parts part n) size

@@ -4,9 +4,12 @@ use Rattle.std.proofs.Common.{arith, ap, ◌∙◌, get_or-append-add, ltb-true}
 use Rattle.std.proofs.Math.Path.{sym, ap₂}
 use mathlib.Core.List.{List, [], ◌∷◌, ◌++◌, map}
 use Rattle.std.proofs.Math.ListN.{length, get_or, length-map, get_or-append}
-use Rattle.codec.specs.Numbers.{byte, be, be-below}
-use Rattle.codec.specs.Sequences.{dep, dep_put, dep-ok}
-use Rattle.codec.specs.Views.{check, check-ok, shape, shape-ok, view, view_put}
+use Rattle.codec.specs.Numbers.{byte, be}
+use Rattle.codec.proofs.Numbers.{be-below}
+use Rattle.codec.specs.Sequences.{dep, dep_put}
+use Rattle.codec.proofs.Sequences.{dep-ok}
+use Rattle.codec.specs.Views.{check, shape, view, view_put}
+use Rattle.codec.proofs.Views.{check-ok, shape-ok}
 use Rattle.model.specs.Rooms.{sensor_room, actuator_room}
 use Rattle.model.specs.Modules.{Sensor, Actuator, Task, each, port_types, port_starts, task_types, task_starts}
 use Rattle.file.specs.Parts.{count, type, value}
@@ -77,7 +80,7 @@ no_sensor = record { name = []; type = 0; getter = [] }
 sensor-ok : (s : Sensor) → sensor.ok s ≡ true → (name.ok s.name ≡ true) × (type.ok s.type ≡ true) × (name.ok s.getter ≡ true)
 unfolding sensor
 sensor-ok s h =
-    let (a, r) = dep-ok _ _ _ s.name (s.type, s.getter) (shape-ok _ _ _ _ _ s h) in
+    let (a, r) = dep-ok _ _ _ s.name (s.type, s.getter) (shape-ok _ _ _ s h) in
     let (b, c) = dep-ok _ _ _ s.type s.getter r in
     (a, b, c)
 
@@ -116,7 +119,7 @@ actuator-ok : (a : Actuator) → actuator.ok a ≡ true
     → (name.ok a.name ≡ true) × (type.ok a.type ≡ true) × ((value a.type).ok a.start ≡ true) × (name.ok a.setter ≡ true)
 unfolding actuator
 actuator-ok a h =
-    let (p, r) = dep-ok _ _ _ a.name (a.type, (a.start, a.setter)) (shape-ok _ _ _ _ _ a h) in
+    let (p, r) = dep-ok _ _ _ a.name (a.type, (a.start, a.setter)) (shape-ok _ _ _ a h) in
     let (q, s) = dep-ok _ _ _ a.type (a.start, a.setter) r in
     let (u, v) = dep-ok _ _ _ a.start a.setter s in
     (p, q, u, v)

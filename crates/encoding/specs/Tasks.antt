@@ -2,11 +2,15 @@
 use Rattle.std.specs.Prelude.{ℕ, zero, suc, ◌+◌, ◌≤◌, ◌<◌, ◌≡◌, refl, true, List, [], ◌∷◌, ◌++◌, map, length, get_or, take}
 use Rattle.std.proofs.Common.{add-zero, arith, sym, ap, ap₂, ◌∙◌, length-append, leb-true}
 use Rattle.std.proofs.lemmas.List.{length-map}
-use Rattle.codec.specs.Codecs.{Codec, and_left, and_right}
+use Rattle.codec.specs.Codecs.{Codec}
+use Rattle.codec.proofs.Codecs.{and_left, and_right}
 use Rattle.codec.specs.Numbers.{be}
-use Rattle.codec.specs.Sequences.{dep, dep_put, dep-ok}
-use Rattle.codec.specs.Views.{check, check-ok, shape, shape-ok, view, view_put}
-use Rattle.codec.specs.Lists.{list, list-ok, run_ok, running-ok}
+use Rattle.codec.specs.Sequences.{dep, dep_put}
+use Rattle.codec.proofs.Sequences.{dep-ok}
+use Rattle.codec.specs.Views.{check, shape, view, view_put}
+use Rattle.codec.proofs.Views.{check-ok, shape-ok}
+use Rattle.codec.specs.Lists.{list, run_ok}
+use Rattle.codec.proofs.Lists.{list-ok, running-ok}
 use Rattle.model.specs.Rooms.{task_room, port_room}
 use Rattle.model.specs.Modules.{Output, Task, no_task, each, task_types, task_starts, task_ports, inputs_at}
 use Rattle.file.specs.Parts.{count, type, value}
@@ -28,7 +32,7 @@ no_output = record { name = []; type = 0; start = 0 }
 pub output-ok : (o : Output) → output.ok o ≡ true → (name.ok o.name ≡ true) × (type.ok o.type ≡ true) × ((value o.type).ok o.start ≡ true)
 unfolding output
 output-ok o h =
-    let (p, r) = dep-ok _ _ _ o.name (o.type, o.start) (shape-ok _ _ _ _ _ o h) in
+    let (p, r) = dep-ok _ _ _ o.name (o.type, o.start) (shape-ok _ _ _ o h) in
     let (q, s) = dep-ok _ _ _ o.type o.start r in
     (p, q, s)
 
@@ -48,7 +52,7 @@ pub record Stands (t : Task) : Type 0 where
 task-stands : (used : Used) (t : Task) → (task used).ok t ≡ true → Stands t
 unfolding task port_count
 task-stands used t h =
-    let (p, r) = dep-ok _ _ _ t.name (t.function, (t.inputs, t.outputs)) (shape-ok _ _ _ _ _ t h) in
+    let (p, r) = dep-ok _ _ _ t.name (t.function, (t.inputs, t.outputs)) (shape-ok _ _ _ t h) in
     let (q, s) = dep-ok _ _ _ t.function (t.inputs, t.outputs) r in
     let (u, v) = dep-ok _ _ _ t.inputs t.outputs s in
     let (a, b) = list-ok _ _ t.inputs u in

@@ -4,7 +4,7 @@ use Rattle.std.proofs.Common.{zero-add, arith, sym, ◌∙◌, take_all}
 use Rattle.std.proofs.Math.Path.{ap, ap₂}
 use mathlib.Core.List.{List, [], ◌∷◌, ◌++◌, map, append_assoc}
 use Rattle.std.proofs.Math.ListN.{get_or, take}
-use Rattle.codec.specs.Codecs.{and_left, and_right}
+use Rattle.codec.proofs.Codecs.{and_left, and_right}
 use Rattle.codec.specs.Numbers.{byte}
 use Rattle.codec.specs.Sequences.{dep, dep_put, dep_ok}
 use Rattle.codec.specs.Views.{shape, view, view_put, view_ok}
@@ -19,7 +19,7 @@ use Rattle.file.specs.Records.{sensors, actuators, tasks}
 use Rattle.file.specs.Code.{drivers, guards, modes, code}
 use Rattle.file.specs.References.{port_roles, argument_type, good_argument, good_guard, good_driver, good_references}
 use Rattle.file.specs.Files.{table, version_of, table_by, body, encode, sound}
-use Rattle.file.specs.Bounds.{body-room}
+use Rattle.file.proofs.Bounds.{body-room}
 use Rattle.layout.specs.Rows.{padded, name_cells}
 use Rattle.layout.specs.Plain.{board_room, struct_of}
 use Rattle.layout.specs.Cells.{padded-cell}

@@ -2,11 +2,11 @@
 ghost use Rattle.std.specs.Prelude.{◌+◌, ◌≤◌, length};
 
 use super::least;
-use libc::STDIN_FILENO;
+use std::io::Read;
 
 // Where the input stands: the line that was found, from a place to another, and its number; where the next begins, where what was read ends;
 // whether the beginning of the next was too long and is passed over; whether this step found a line, met one that is too long, met the end.
-#[derive(Drop)]
+#[derive(Clone, Copy)]
 pub struct Input {
     pub from: usize,
     pub to: usize,
@@ -81,19 +81,17 @@ fn shift(buffer: &mut [u8], from: usize, end: usize) -> usize
     n
 }
 
-// More of the input behind what is held; how much stands there then, and nothing more at its end.
-fn fill(buffer: &mut [u8], held: usize) -> usize
+// More of the input behind what is held; how much stands there then, and nothing more at its end or where a read fails.
+fn fill(source: &mut impl Read, buffer: &mut [u8], held: usize) -> usize
     ensures { result ≤ length buffer.new }
 {
     if buffer.len() <= held {
         return buffer.len();
     }
-    let got = libc::read(STDIN_FILENO, &mut buffer[held..]);
-    if got <= 0 {
-        return held;
+    match source.read(&mut buffer[held..]) {
+        Ok(n) => held + n,
+        Err(_) => held,
     }
-    let n = io::count(got, &buffer[held..]);
-    held + n
 }
 
 // A line longer than the buffer: told once, and counted.
@@ -117,14 +115,14 @@ fn last(buffer: &[u8], before: Input, held: usize) -> Input {
 }
 
 // No whole line is held: more of the input.
-fn more(buffer: &mut [u8], before: Input, next: usize, end: usize) -> Input
+fn more(source: &mut impl Read, buffer: &mut [u8], before: Input, next: usize, end: usize) -> Input
     requires { next ≤ end }
 {
     let held = shift(buffer, next, end);
     if held >= buffer.len() {
         return too_long(before);
     }
-    let filled = fill(buffer, held);
+    let filled = fill(source, buffer, held);
     if filled <= held {
         return last(buffer, before, held);
     }
@@ -132,23 +130,23 @@ fn more(buffer: &mut [u8], before: Input, next: usize, end: usize) -> Input
 }
 
 // The next line, or more of the input.
-pub(super) fn step(buffer: &mut [u8], before: Input) -> Input {
+pub(super) fn step(source: &mut impl Read, buffer: &mut [u8], before: Input) -> Input {
     let end = least(before.end, buffer.len());
     let next = least(before.next, end);
     let stop = lines::find(&buffer[0..end], next, 10);
     if stop < end {
         return line(buffer, before, next, stop, stop + 1, end);
     }
-    more(buffer, before, next, end)
+    more(source, buffer, before, next, end)
 }
 
 // The first line.
-pub(super) fn first(buffer: &mut [u8]) -> Input {
+pub(super) fn first(source: &mut impl Read, buffer: &mut [u8]) -> Input {
     let mut input = beginning();
     let mut turns = u64::MAX;
     while turns > 0 {
         turns -= 1;
-        input = step(buffer, input);
+        input = step(source, buffer, input);
         if input.found || input.long || input.ended {
             return input;
         }

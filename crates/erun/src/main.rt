@@ -1,6 +1,8 @@
 // The E-machine driven by a script of named calls: the trace of what it answers and what each call changes (docs/RUN.md).
 // Promises: it ends when the input does, in the memory that it has from the beginning, whatever the lines say.
 // Builds on lines and naming, and on the product's own reader and machine.
+#![tactic(auto)]
+
 ghost use Rattle.std.specs.Prelude.{◌≤◌};
 
 use emachine::Machine;
@@ -8,6 +10,8 @@ use file::ReadAnswer;
 use input::Input;
 use lines::numbers;
 use scripts::Call;
+use std::io;
+use std::io::{Read, Write};
 use tables::Table;
 use traces::Said;
 
@@ -38,7 +42,7 @@ struct Obeyed {
 }
 
 // What the first line says: how many bytes the file has, 0 for none, and whether the script ends at its first error.
-#[derive(Drop)]
+#[derive(Clone, Copy)]
 struct Told {
     size: usize,
     stop: bool,
@@ -68,7 +72,7 @@ fn no_call() -> Call {
     }
 }
 
-fn ask(line: &[u8], found: bool, made: bool, machine: Machine, values: &mut [u32]) -> Call {
+fn ask(line: &[u8], found: bool, made: bool, machine: &Machine, values: &mut [u32]) -> Call {
     if !found {
         return no_call();
     }
@@ -92,25 +96,25 @@ fn ask(line: &[u8], found: bool, made: bool, machine: Machine, values: &mut [u32
 }
 
 // A line that asks nothing of the machine: a comment, a help, an error; whether it has an error.
-fn plain(line: &[u8], input: Input, call: Call) -> bool {
+fn plain(output: &mut impl Write, line: &[u8], input: Input, call: Call) -> io::Result<bool> {
     if input.long {
-        messages::trouble(input.number, b"the line is too long\n");
-        return true;
+        messages::trouble(output, input.number, b"the line is too long\n")?;
+        return Ok(true);
     }
     if !input.found {
-        return false;
+        return Ok(false);
     }
     if call.kind == scripts::COMMENT {
-        traces::remark(line);
-        return false;
+        traces::remark(output, line)?;
+        return Ok(false);
     }
-    traces::echo(line);
+    traces::echo(output, line)?;
     if call.kind == scripts::HELP {
-        messages::help();
-        return false;
+        messages::help(output)?;
+        return Ok(false);
     }
-    messages::error(line, input.number, call.wrong, call.from, call.to);
-    true
+    messages::error(output, line, input.number, call.wrong, call.from, call.to)?;
+    Ok(true)
 }
 
 // ---- the machine
@@ -176,20 +180,27 @@ fn obey<'b>(machine: Machine, call: Call, types: &'b [u32], words: &'b [u32]) ->
 // ---- lines
 
 // A step of the input: the line that it found, if it found one.
-fn serve(line: &[u8], input: Input, stop: bool, dock: Dock, values: &mut [u32]) -> Dock {
+fn serve(
+    output: &mut impl Write,
+    line: &[u8],
+    input: Input,
+    stop: bool,
+    dock: Dock,
+    values: &mut [u32],
+) -> io::Result<Dock> {
     let machine = dock.machine;
     let before = machine.standing;
     let held = machine.ports;
-    let call = ask(line, input.found, dock.made, machine, values);
+    let call = ask(line, input.found, dock.made, &machine, values);
     if call.kind < scripts::START {
-        let wrong = plain(line, input, call);
-        return Dock {
+        let wrong = plain(output, line, input, call)?;
+        return Ok(Dock {
             machine: machine,
             made: dock.made,
             ended: input.ended || wrong && stop,
-        };
+        });
     }
-    traces::echo(line);
+    traces::echo(output, line)?;
     let obeyed = obey(
         machine,
         call,
@@ -198,29 +209,39 @@ fn serve(line: &[u8], input: Input, stop: bool, dock: Dock, values: &mut [u32]) 
     );
     let said = obeyed.said;
     let behind = obeyed.machine;
-    showing::show(call, said, before, held, behind);
-    Dock {
+    showing::show(output, call, said, before, held, &behind)?;
+    Ok(Dock {
         machine: behind,
         made: call.kind != scripts::START || said.kind != traces::REFUSED,
         ended: false,
-    }
+    })
 }
 
 // The script, line by line, until the input ends.
-fn run(buffer: &mut [u8], first: Input, stop: bool, dock: Dock, values: &mut [u32]) {
+fn run(
+    source: &mut impl Read,
+    output: &mut impl Write,
+    buffer: &mut [u8],
+    first: Input,
+    stop: bool,
+    dock: Dock,
+    values: &mut [u32],
+) -> io::Result<()> {
     let mut now = dock;
     let mut input = first;
     let mut turns = u64::MAX;
     while turns > 0 {
         turns -= 1;
-        input = input::step(buffer, input);
+        input = input::step(source, buffer, input);
         let to = least(input.to, buffer.len());
         let from = least(input.from, to);
-        now = serve(&buffer[from..to], input, stop, now, values);
+        now = serve(output, &buffer[from..to], input, stop, now, values)?;
+        output.flush()?;
         if now.ended {
-            return;
+            return Ok(());
         }
     }
+    Ok(())
 }
 
 // ---- the first line
@@ -274,39 +295,56 @@ fn empty(table: Table) -> Dock {
 }
 
 // The file is read, and the script follows.
-fn drive(buffer: &mut [u8], first: Input, told: Told, bytes: &[u8], values: &mut [u32]) {
+fn drive(
+    source: &mut impl Read,
+    output: &mut impl Write,
+    buffer: &mut [u8],
+    first: Input,
+    told: Told,
+    bytes: &[u8],
+    values: &mut [u32],
+) -> io::Result<()> {
     let reading = ecode::read(bytes);
     let answer = reading.answer;
     let table = reading.table;
     match answer {
-        ReadAnswer::Refused(n) => {
-            messages::unread(n);
-        }
+        ReadAnswer::Refused(n) => messages::unread(output, n),
         ReadAnswer::Read => {
             values::fetch(&table.types, 0, values, 64);
             let dock = empty(table);
-            run(buffer, first, told.stop, dock, values);
+            run(source, output, buffer, first, told.stop, dock, values)
         }
     }
 }
 
 // The first line, then the others.
-fn begin(buffer: &mut [u8], bytes: &mut [u8], values: &mut [u32]) {
-    let first = input::first(buffer);
+fn begin(
+    source: &mut impl Read,
+    output: &mut impl Write,
+    buffer: &mut [u8],
+    bytes: &mut [u8],
+    values: &mut [u32],
+) -> io::Result<()> {
+    let first = input::first(source, buffer);
     let to = least(first.to, buffer.len());
     let from = least(first.from, to);
     let told = opening(&buffer[from..to], bytes);
     let size = least(told.size, bytes.len());
     if size == 0 {
-        messages::trouble(0, b"file HEX expected\n");
-        return;
+        return messages::trouble(output, 0, b"file HEX expected\n");
     }
-    drive(buffer, first, told, &bytes[0..size], values);
+    drive(source, output, buffer, first, told, &bytes[0..size], values)
 }
 
-fn main() {
+fn main(rt: HostRuntime) -> io::Result<()> {
     let mut buffer = [0u8; 262144];
     let mut bytes = [0u8; 100000];
     let mut values = [0u32; 128];
-    begin(&mut buffer, &mut bytes, &mut values);
+    begin(
+        &mut rt.stdin(),
+        &mut rt.stdout(),
+        &mut buffer,
+        &mut bytes,
+        &mut values,
+    )
 }

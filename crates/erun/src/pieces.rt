@@ -1,35 +1,37 @@
 // Pieces of the trace, written one behind the other.
 use super::least;
-use libc::STDOUT_FILENO;
+use std::io;
+use std::io::Write;
 
-pub(super) fn put(words: &[u8]) {
-    io::write_all(STDOUT_FILENO, words);
+pub(super) fn put(output: &mut impl Write, words: &[u8]) -> io::Result<()> {
+    output.write_all(words)
 }
 
-pub(super) fn number(number: u64) {
-    io::print_decimal(STDOUT_FILENO, number);
+pub(super) fn number(output: &mut impl Write, number: u64) -> io::Result<()> {
+    write!(output, "{number}")
 }
 
 // The first bytes of a buffer.
-fn first(buffer: &[u8], size: usize) {
+fn first(output: &mut impl Write, buffer: &[u8], size: usize) -> io::Result<()> {
     let end = least(size, buffer.len());
-    put(&buffer[0..end]);
+    put(output, &buffer[0..end])
 }
 
 // The name in a row of names.
-pub(super) fn name(names: &[u8], row: usize) {
+pub(super) fn name(output: &mut impl Write, names: &[u8], row: usize) -> io::Result<()> {
     let mut buffer = [0u8; 32];
     let size = naming::name(&mut buffer, 0, names, row);
-    first(&buffer, size);
+    first(output, &buffer, size)
 }
 
 // A task by its number.
-pub(super) fn task(task_names: &[u8], number: u32) {
-    name(task_names, cells::wide32(number) * 2);
+pub(super) fn task(output: &mut impl Write, task_names: &[u8], number: u32) -> io::Result<()> {
+    name(output, task_names, cells::wide32(number) * 2)
 }
 
 // A port by its number.
 pub(super) fn port<'a>(
+    output: &mut impl Write,
     number: u32,
     sensors: u32,
     actuators: u32,
@@ -39,7 +41,7 @@ pub(super) fn port<'a>(
     task_names: &'a [u8],
     output_names: &'a [u8],
     task_rows: &'a [u32],
-) {
+) -> io::Result<()> {
     let mut buffer = [0u8; 80];
     let size = naming::port(
         &mut buffer,
@@ -54,32 +56,28 @@ pub(super) fn port<'a>(
         output_names,
         task_rows,
     );
-    first(&buffer, size);
+    first(output, &buffer, size)
 }
 
 // A word as a value of its type.
-pub(super) fn value(typ: u32, word: u32) {
+pub(super) fn value(output: &mut impl Write, typ: u32, word: u32) -> io::Result<()> {
     if typ == 1 {
         if word == 0 {
-            put(b"false");
-            return;
+            return put(output, b"false");
         }
-        put(b"true");
-        return;
+        return put(output, b"true");
     }
     if word < 2147483648 {
-        number(word as u64);
-        return;
+        return number(output, word as u64);
     }
-    put(b"-");
-    number(4294967296 - (word as u64));
+    put(output, b"-")?;
+    number(output, 4294967296 - (word as u64))
 }
 
 // A mode by its number; `-` for none.
-pub(super) fn mode(mode_names: &[u8], number: u32) {
+pub(super) fn mode(output: &mut impl Write, mode_names: &[u8], number: u32) -> io::Result<()> {
     if number >= 8 {
-        put(b"-");
-        return;
+        return put(output, b"-");
     }
-    name(mode_names, cells::wide32(number));
+    name(output, mode_names, cells::wide32(number))
 }

@@ -22,7 +22,7 @@ pub const LOOK: u8 = 7;
 // The script's errors: 1 no such call, 2 a number is wrong, 3 a value is wrong, 4 no such sensor, 5 no such task, 6 no such output,
 // 7 no machine is started, 8 words left over, 9 a word is missing; 0 none.
 // A call: what it is, 0 for an error; its count or task; how many values; the error, and the part of the line that it is about.
-#[derive(Drop)]
+#[derive(Clone, Copy)]
 pub struct Call {
     pub kind: u8,
     pub number: u32,

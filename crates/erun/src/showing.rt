@@ -4,6 +4,8 @@ use super::traces::Said;
 use super::{scripts, traces};
 use calls::Standing;
 use emachine::Machine;
+use std::io;
+use std::io::Write;
 
 // Where a machine stands before its start.
 pub(super) fn unstarted() -> Standing {
@@ -36,11 +38,19 @@ fn old_ports(call: Call, before: [u32; 320], starts: [u32; 320]) -> [u32; 320] {
 }
 
 // The trace of a call, from what stood before and the machine behind it.
-pub(super) fn show(call: Call, said: Said, before: Standing, held: [u32; 320], machine: Machine) {
+pub(super) fn show(
+    output: &mut impl Write,
+    call: Call,
+    said: Said,
+    before: Standing,
+    held: [u32; 320],
+    machine: &Machine,
+) -> io::Result<()> {
     let stands = machine.standing;
     let starts = machine.table.starts;
     let were = old_ports(call, held, starts);
     traces::tell(
+        output,
         said,
         old_standing(call, before),
         stands,
@@ -57,5 +67,5 @@ pub(super) fn show(call: Call, said: Said, before: Standing, held: [u32; 320], m
         &machine.table.task_names,
         &machine.table.output_names,
         &machine.table.task_rows,
-    );
+    )
 }

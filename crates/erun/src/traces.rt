@@ -1,6 +1,8 @@
 // The trace of a script (docs/RUN.md), written to standard output: a call, its answer in words and what it changed.
 use super::{changes, messages, pieces};
 use calls::Standing;
+use std::io;
+use std::io::Write;
 
 pub const OBEYED: u8 = 1;
 
@@ -21,26 +23,27 @@ pub const TAKEN: u8 = 8;
 pub const SEEN: u8 = 9;
 
 // What a call answered, and its number: of instructions, of the refusal or the fault, of the task.
-#[derive(Drop)]
+#[derive(Clone, Copy)]
 pub struct Said {
     pub kind: u8,
     pub number: u32,
 }
 
 // A call, as it stands.
-pub(super) fn echo(line: &[u8]) {
-    pieces::put(b"> ");
-    remark(line);
+pub(super) fn echo(output: &mut impl Write, line: &[u8]) -> io::Result<()> {
+    pieces::put(output, b"> ")?;
+    remark(output, line)
 }
 
 // A comment, as it stands.
-pub(super) fn remark(line: &[u8]) {
-    pieces::put(line);
-    pieces::put(b"\n");
+pub(super) fn remark(output: &mut impl Write, line: &[u8]) -> io::Result<()> {
+    pieces::put(output, line)?;
+    pieces::put(output, b"\n")
 }
 
 // The answer of a call, and what it changed; all of it for a look.
 pub(super) fn tell<'a>(
+    output: &mut impl Write,
     said: Said,
     old: Standing,
     new: Standing,
@@ -57,10 +60,11 @@ pub(super) fn tell<'a>(
     task_names: &'a [u8],
     output_names: &'a [u8],
     task_rows: &'a [u32],
-) {
+) -> io::Result<()> {
     if said.kind == SEEN {
-        changes::standing(mode_names, task_names, new);
-        changes::held(
+        changes::standing(output, mode_names, task_names, new)?;
+        return changes::held(
+            output,
             roles,
             types,
             ports,
@@ -73,14 +77,14 @@ pub(super) fn tell<'a>(
             output_names,
             task_rows,
         );
-        return;
     }
-    messages::answer(said, task_names);
+    messages::answer(output, said, task_names)?;
     if said.kind == REFUSED {
-        return;
+        return Ok(());
     }
-    changes::clock(mode_names, old, new);
+    changes::clock(output, mode_names, old, new)?;
     changes::ports(
+        output,
         roles,
         types,
         old_ports,
@@ -93,6 +97,6 @@ pub(super) fn tell<'a>(
         task_names,
         output_names,
         task_rows,
-    );
-    changes::lists(task_names, old, new);
+    )?;
+    changes::lists(output, task_names, old, new)
 }

@@ -4,7 +4,7 @@ ghost use Rattle.std.specs.Prelude.{◌<◌, ◌≤◌, length};
 use lines::{Part, numbers};
 
 // A type and a word, where the part of the line is a value.
-#[derive(Drop)]
+#[derive(Clone, Copy)]
 pub struct Value {
     pub good: bool,
     pub typ: u32,
@@ -12,7 +12,7 @@ pub struct Value {
 }
 
 // A count of the clock, where the part of the line is one.
-#[derive(Drop)]
+#[derive(Clone, Copy)]
 pub struct Count {
     pub good: bool,
     pub value: u32,

@@ -1,6 +1,7 @@
 // ECODES: each instruction with its arguments and, behind //, what it does.
 use super::{drivers, forms, guards, modes};
-use libc::STDOUT_FILENO;
+use std::io;
+use std::io::Write;
 
 // The forms: nop by its marker, and these.
 const FUTURE: u32 = 3;
@@ -19,30 +20,51 @@ const RETURN: u32 = 9;
 
 const SWITCH: u32 = 10;
 
-fn say(form: u32, number: u32, first: u32, second: u32, book: &[u8]) {
+fn say(
+    output: &mut impl Write,
+    form: u32,
+    number: u32,
+    first: u32,
+    second: u32,
+    book: &[u8],
+) -> io::Result<()> {
     let numbers = [number, first, second, second];
     forms::say(
+        output,
         b"  [#] nop %;\n  [#] nop % //end of task terminations;\n  [#] nop % //end of actuator updates;\n  [#] future %, % //next block in % us;\n  [#] release % //uses: &;\n  [#] if %, % //guard: \n__), else %;\n  [#] jump %;\n  [#] jump % //next cycle: ^;\n  [#] return;\n  [#] switch % //mode switch -> ^;\n",
         form,
         &numbers,
         book,
-    );
+    )
 }
 
-fn test<'a>(number: u32, guard: u32, place: u32, book: &'a [u8], guard_rows: &'a [u32]) {
-    say(IF, number, guard, place, book);
-    guards::said(guard, true, book, guard_rows);
-    say(ELSE, number, guard, place, book);
+fn test<'a>(
+    output: &mut impl Write,
+    number: u32,
+    guard: u32,
+    place: u32,
+    book: &'a [u8],
+    guard_rows: &'a [u32],
+) -> io::Result<()> {
+    say(output, IF, number, guard, place, book)?;
+    guards::said(output, guard, true, book, guard_rows)?;
+    say(output, ELSE, number, guard, place, book)
 }
 
 // A jump, and the mode whose code it begins again.
-fn jump<'a>(number: u32, place: u32, modes: u32, book: &'a [u8], mode_rows: &'a [u32]) {
+fn jump<'a>(
+    output: &mut impl Write,
+    number: u32,
+    place: u32,
+    modes: u32,
+    book: &'a [u8],
+    mode_rows: &'a [u32],
+) -> io::Result<()> {
     let mode = modes::beginning(place, modes, mode_rows);
     if mode == modes {
-        say(JUMP, number, place, mode, book);
-        return;
+        return say(output, JUMP, number, place, mode, book);
     }
-    say(CYCLE, number, place, mode, book);
+    say(output, CYCLE, number, place, mode, book)
 }
 
 // The form of an instruction that needs no other table.
@@ -65,6 +87,7 @@ fn last(opcode: u32, first: u32, second: u32) -> u32 {
 }
 
 fn shown<'a>(
+    output: &mut impl Write,
     number: u32,
     opcode: u32,
     first: u32,
@@ -74,29 +97,28 @@ fn shown<'a>(
     driver_rows: &'a [u32],
     guard_rows: &'a [u32],
     mode_rows: &'a [u32],
-) {
+) -> io::Result<()> {
     if opcode == 2 {
-        drivers::call(number, first, book, driver_rows);
-        return;
+        return drivers::call(output, number, first, book, driver_rows);
     }
     if opcode == 4 {
-        test(number, first, second, book, guard_rows);
-        return;
+        return test(output, number, first, second, book, guard_rows);
     }
     if opcode == 5 {
-        jump(number, first, modes, book, mode_rows);
-        return;
+        return jump(output, number, first, modes, book, mode_rows);
     }
     say(
+        output,
         form(opcode, first),
         number,
         first,
         last(opcode, first, second),
         book,
-    );
+    )
 }
 
 fn line<'a>(
+    output: &mut impl Write,
     number: u32,
     modes: u32,
     book: &'a [u8],
@@ -104,12 +126,13 @@ fn line<'a>(
     driver_rows: &'a [u32],
     guard_rows: &'a [u32],
     mode_rows: &'a [u32],
-) {
+) -> io::Result<()> {
     let row = 3 * cells::wide32(number);
     let opcode = cells::at32(code, row);
     let first = cells::at32(code, row + 1);
     let second = cells::at32(code, row + 2);
     shown(
+        output,
         number,
         opcode,
         first,
@@ -119,10 +142,11 @@ fn line<'a>(
         driver_rows,
         guard_rows,
         mode_rows,
-    );
+    )
 }
 
 pub(crate) fn list<'a>(
+    output: &mut impl Write,
     instructions: u32,
     modes: u32,
     book: &'a [u8],
@@ -130,11 +154,21 @@ pub(crate) fn list<'a>(
     driver_rows: &'a [u32],
     guard_rows: &'a [u32],
     mode_rows: &'a [u32],
-) {
-    io::write_all(STDOUT_FILENO, b"ECODES\n");
+) -> io::Result<()> {
+    output.write_all(b"ECODES\n")?;
     let mut k = 0u32;
     while k < instructions {
-        line(k, modes, book, code, driver_rows, guard_rows, mode_rows);
+        line(
+            output,
+            k,
+            modes,
+            book,
+            code,
+            driver_rows,
+            guard_rows,
+            mode_rows,
+        )?;
         k += 1;
     }
+    Ok(())
 }

@@ -1,6 +1,7 @@
 // DRIVERS: what each copies where, by numbers and, behind //, by names.
 use super::forms;
-use libc::STDOUT_FILENO;
+use std::io;
+use std::io::Write;
 
 // 3 an actuator's update, 4 a release, 5 a termination.
 fn tag(driver_rows: &[u32], driver: u32) -> u32 {
@@ -36,33 +37,53 @@ const END: u32 = 7;
 
 const CALL: u32 = 8;
 
-fn say<'a>(form: u32, numbers: &'a [u32], book: &'a [u8]) {
+fn say<'a>(
+    output: &mut impl Write,
+    form: u32,
+    numbers: &'a [u32],
+    book: &'a [u8],
+) -> io::Result<()> {
     forms::say(
+        output,
         b"  [#] tag=actuator, actPortID=%, srcPortID=% //@ := @;\n  [#] tag=release, taskID=%, assign:\n  [#] tag=terminate, taskID=%_ //$;\n %:=%\n //_$(\n_@\n_, @\n);\n  [#] call % //actuator update: @ := @;\n  [#] call % //release task: $;\n  [#] call % //terminate task: $;\n",
         form,
         numbers,
         book,
-    );
+    )
 }
 
-fn part(form: u32, first: u32, second: u32, book: &[u8]) {
+fn part(
+    output: &mut impl Write,
+    form: u32,
+    first: u32,
+    second: u32,
+    book: &[u8],
+) -> io::Result<()> {
     let numbers = [first, second];
-    say(form, &numbers, book);
+    say(output, form, &numbers, book)
 }
 
 // A release's copies by numbers, from the task's first input on.
-fn copies<'a>(driver: u32, first: u32, book: &'a [u8], driver_rows: &'a [u32]) {
+fn copies<'a>(
+    output: &mut impl Write,
+    driver: u32,
+    first: u32,
+    book: &'a [u8],
+    driver_rows: &'a [u32],
+) -> io::Result<()> {
     let many = count(driver_rows, driver);
     let mut k = 0u32;
     while k < many {
         part(
+            output,
             PAIR,
             std::num::wrapping_add_u32(first, k),
             source(driver_rows, driver, k),
             book,
-        );
+        )?;
         k += 1;
     }
+    Ok(())
 }
 
 fn argument(place: u32) -> u32 {
@@ -73,54 +94,86 @@ fn argument(place: u32) -> u32 {
 }
 
 // A release's sources by names.
-fn arguments<'a>(driver: u32, book: &'a [u8], driver_rows: &'a [u32]) {
+fn arguments<'a>(
+    output: &mut impl Write,
+    driver: u32,
+    book: &'a [u8],
+    driver_rows: &'a [u32],
+) -> io::Result<()> {
     let many = count(driver_rows, driver);
     let mut k = 0u32;
     while k < many {
-        part(argument(k), k, source(driver_rows, driver, k), book);
+        part(output, argument(k), k, source(driver_rows, driver, k), book)?;
         k += 1;
     }
+    Ok(())
 }
 
 // What stands behind `assign:` in a release's line.
 fn release<'a>(
+    output: &mut impl Write,
     driver: u32,
     task: u32,
     book: &'a [u8],
     task_rows: &'a [u32],
     driver_rows: &'a [u32],
-) {
+) -> io::Result<()> {
     let first = cells::at32(task_rows, 4 * cells::wide32(task));
-    copies(driver, first, book, driver_rows);
-    part(NAME, driver, task, book);
-    arguments(driver, book, driver_rows);
-    part(END, driver, task, book);
+    copies(output, driver, first, book, driver_rows)?;
+    part(output, NAME, driver, task, book)?;
+    arguments(output, driver, book, driver_rows)?;
+    part(output, END, driver, task, book)
 }
 
-fn line<'a>(driver: u32, book: &'a [u8], task_rows: &'a [u32], driver_rows: &'a [u32]) {
+fn line<'a>(
+    output: &mut impl Write,
+    driver: u32,
+    book: &'a [u8],
+    task_rows: &'a [u32],
+    driver_rows: &'a [u32],
+) -> io::Result<()> {
     let tag = tag(driver_rows, driver);
     let to = target(driver_rows, driver);
     let from = source(driver_rows, driver, 0);
     let numbers = [driver, to, from, to, from];
-    say(std::num::wrapping_sub_u32(tag, 3), &numbers, book);
+    say(output, std::num::wrapping_sub_u32(tag, 3), &numbers, book)?;
     if tag == 4 {
-        release(driver, to, book, task_rows, driver_rows);
+        release(output, driver, to, book, task_rows, driver_rows)?;
     }
+    Ok(())
 }
 
-pub(crate) fn list<'a>(drivers: u32, book: &'a [u8], task_rows: &'a [u32], driver_rows: &'a [u32]) {
-    io::write_all(STDOUT_FILENO, b"DRIVERS\n");
+pub(crate) fn list<'a>(
+    output: &mut impl Write,
+    drivers: u32,
+    book: &'a [u8],
+    task_rows: &'a [u32],
+    driver_rows: &'a [u32],
+) -> io::Result<()> {
+    output.write_all(b"DRIVERS\n")?;
     let mut k = 0u32;
     while k < drivers {
-        line(k, book, task_rows, driver_rows);
+        line(output, k, book, task_rows, driver_rows)?;
         k += 1;
     }
+    Ok(())
 }
 
 // The line of an instruction that calls a driver.
-pub(crate) fn call<'a>(number: u32, driver: u32, book: &'a [u8], driver_rows: &'a [u32]) {
+pub(crate) fn call<'a>(
+    output: &mut impl Write,
+    number: u32,
+    driver: u32,
+    book: &'a [u8],
+    driver_rows: &'a [u32],
+) -> io::Result<()> {
     let form = std::num::wrapping_sub_u32(tag(driver_rows, driver), 3);
     let to = target(driver_rows, driver);
     let numbers = [number, driver, to, source(driver_rows, driver, 0)];
-    say(std::num::wrapping_add_u32(CALL, form), &numbers, book);
+    say(
+        output,
+        std::num::wrapping_add_u32(CALL, form),
+        &numbers,
+        book,
+    )
 }

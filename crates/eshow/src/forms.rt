@@ -6,8 +6,9 @@
 ghost use Rattle.std.specs.Prelude.{◌≡◌, ◌≤◌, length};
 
 use super::book;
-use libc::STDOUT_FILENO;
 use lines::saying;
+use std::io;
+use std::io::Write;
 
 fn least(many: usize, room: usize) -> usize
     ensures { result ≤ room }
@@ -112,13 +113,18 @@ fn taken(sign: u8) -> u32 {
     1
 }
 
-fn write(out: &mut [u8], at: usize) {
+fn write(output: &mut impl Write, out: &mut [u8], at: usize) -> io::Result<()> {
     let size = least(at, out.len());
-    io::write_all(STDOUT_FILENO, &out[0..size]);
+    output.write_all(&out[0..size])
 }
 
 // A piece of the listing, written. The longest, an update's line, has some 160 bytes.
-fn spell<'a>(form: &'a [u8], numbers: &'a [u32], book: &'a [u8]) {
+fn spell<'a>(
+    output: &mut impl Write,
+    form: &'a [u8],
+    numbers: &'a [u32],
+    book: &'a [u8],
+) -> io::Result<()> {
     let mut out = [0u8; 256];
     let mut at = 0;
     let mut next = 0u32;
@@ -137,7 +143,7 @@ fn spell<'a>(form: &'a [u8], numbers: &'a [u32], book: &'a [u8]) {
         next = std::num::wrapping_add_u32(next, taken(sign));
         k += 1;
     }
-    write(&mut out, at);
+    write(output, &mut out, at)
 }
 
 // How many forms are still to pass over behind a byte.
@@ -163,10 +169,17 @@ fn begin(text: &[u8], form: u32) -> usize {
 }
 
 // A piece of the listing by the number of its form.
-pub(crate) fn say<'a>(text: &'a [u8], form: u32, numbers: &'a [u32], book: &'a [u8]) {
+pub(crate) fn say<'a>(
+    output: &mut impl Write,
+    text: &'a [u8],
+    form: u32,
+    numbers: &'a [u32],
+    book: &'a [u8],
+) -> io::Result<()> {
     let from = begin(text, form);
     let end = lines::find(text, from, 10);
     if from < end {
-        spell(&text[from..end], numbers, book);
+        spell(output, &text[from..end], numbers, book)?;
     }
+    Ok(())
 }

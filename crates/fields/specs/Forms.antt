@@ -48,3 +48,5 @@ second_none (suc (suc (suc (suc (suc zero))))) a h g = refl
 second_none (suc (suc (suc (suc (suc (suc zero)))))) a h g = refl
 second_none (suc (suc (suc (suc (suc (suc (suc zero))))))) a h g = refl
 second_none (suc (suc (suc (suc (suc (suc (suc (suc o)))))))) a h g = refl
+
+pub ruleset first_forms = (first-marker, first-none, first_past, first-free)

@@ -2,11 +2,15 @@
 use Rattle.std.specs.Prelude.{ℕ, zero, suc, ◌+◌, ◌-◌, ◌≤◌, ◌<◌, ◌≡◌, refl, Bool, true, false, cond, leb, List, [], ◌∷◌, ◌++◌, length, get_or, set, take, drop}
 use Rattle.std.proofs.Common.{add-zero, add-one, arith, sym, ap, ◌∙◌, leb-true, take-suc, take_all, length-take-le, get_or-drop, get_or-take}
 use Rattle.std.proofs.Math.Seq.{slice, slice_empty, slice-cons, take-nil}
-use Rattle.codec.specs.Readings.{got, no, and_then-got, or_no-got}
+use Rattle.codec.specs.Readings.{got, no}
+use Rattle.codec.proofs.Readings.{and_then-got, or_no-got}
 use Rattle.codec.specs.Codecs.{Codec}
-use Rattle.codec.specs.Numbers.{byte, byte_at, byte-missing}
-use Rattle.codec.specs.Views.{check, view_get, when_true, when_true-some, check-no, check-fails, check-got}
-use Rattle.codec.specs.Lists.{many_get, list-no, list_on}
+use Rattle.codec.specs.Numbers.{byte}
+use Rattle.codec.proofs.Numbers.{byte_at, byte-missing}
+use Rattle.codec.specs.Views.{check, view_get, when_true}
+use Rattle.codec.proofs.Views.{when_true-some, check-no, check-fails, check-got}
+use Rattle.codec.specs.Lists.{many_get}
+use Rattle.codec.proofs.Lists.{list-no, list_on}
 use Rattle.text.specs.Words.{within}
 use Rattle.file.specs.Names.{good_name, name}
 use Rattle.layout.specs.Rows.{name_cells}

@@ -6,7 +6,8 @@ use Rattle.std.proofs.Math.Path.{refl, sym, ap}
 use Rattle.std.proofs.Common.{◌∙◌, ⊎_elim}
 use Rattle.codec.specs.Readings.{Reading, got, no, and_then}
 use Rattle.codec.specs.Codecs.{Codec}
-use Rattle.codec.specs.Lists.{run_get, running, list, running-no, running-on, run_length}
+use Rattle.codec.specs.Lists.{run_get, running, list}
+use Rattle.codec.proofs.Lists.{running-no, running-on, run_length}
 use Rattle.layout.specs.Filling.{fill}
 use Rattle.fields.specs.Taking.{Point, at, reached, taken, Takes, kept, ahead, Left, Runs, counted}
 use Rattle.fields.specs.TakingLaws.{reached-on, reached-no, takes_out, takes-no, takes-refused, takes-in-read, number-got, number-no}

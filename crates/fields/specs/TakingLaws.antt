@@ -1,5 +1,5 @@
 -- How readings go on, said once for every reader.
-use Rattle.std.specs.Prelude.{ℕ, zero, suc, ◌-◌, ◌≤◌, ◌<◌, Bool, ◌⊎◌, length}
+use Rattle.std.specs.Prelude.{ℕ, zero, suc, ◌≤◌, ◌<◌, Bool, ◌⊎◌, length}
 use Rattle.std.proofs.Common.{arith, sym, ◌∙◌, inl, inr, length-drop}
 use Rattle.std.proofs.Math.Path.{◌≡◌, refl, ap}
 use Rattle.std.proofs.Math.Bool.{true, false, cond}
@@ -8,7 +8,8 @@ use Rattle.std.proofs.Math.ListN.{drop}
 use Rattle.codec.specs.Readings.{Reading, got, no, and_then}
 use Rattle.codec.specs.Codecs.{Codec}
 use Rattle.codec.specs.Sequences.{dep, dep_get}
-use Rattle.codec.specs.Views.{shape, check, shape_on, check-no, check-got, check-fails}
+use Rattle.codec.specs.Views.{shape, check}
+use Rattle.codec.proofs.Views.{shape_on, check-no, check-got, check-fails}
 use Rattle.fields.specs.Taking.{Point, at, reached, taken, Takes, kept}
 
 -- ---- a reading, by its refusal
@@ -228,9 +229,8 @@ module _ {S : Type 0} {s : List ℕ} (c : Codec ℕ) (P : ℕ → Type 0) (d : (
 
 -- ---- a part under another shape, or under a test
 
-module _ {A B S : Type 0} {s : List ℕ} (c : Codec A) (to : B → A) (from : A → B) (one : (b : B) → from (to b) ≡ b) (two : (a : A) → c.ok a ≡ true → to (from a) ≡ a)
-    {store : B → S → S} {p q : Point S} where
-  pub takes-shape : Takes s c (λ a. store (from a)) p q → Takes s (shape c to from one two) store p q
+module _ {A B S : Type 0} {s : List ℕ} (c : Codec A) (to : B → A) (from : A → B) {store : B → S → S} {p q : Point S} where
+  pub takes-shape : Takes s c (λ a. store (from a)) p q → Takes s (shape c to from) store p q
   unfolding taken
   takes-shape t = record { is = t.is ∙ go (reached s p); inside = t.inside }
     where
@@ -238,8 +238,8 @@ module _ {A B S : Type 0} {s : List ℕ} (c : Codec A) (to : B → A) (from : A 
       in-part l (got a rest) = refl
       in-part l (no n) = refl
 
-      go : (m : Reading S) → taken c (λ a. store (from a)) m ≡ taken (shape c to from one two) store m
-      go (got l bs) = in-part l (c.get bs) ∙ ap (λ (r : Reading B). and_then r (λ b rest. got (store b l) rest)) (sym (shape_on c to from one two bs))
+      go : (m : Reading S) → taken c (λ a. store (from a)) m ≡ taken (shape c to from) store m
+      go (got l bs) = in-part l (c.get bs) ∙ ap (λ (r : Reading B). and_then r (λ b rest. got (store b l) rest)) (sym (shape_on c to from bs))
       go (no n) = refl
 
 -- a number that is tested: refused with e where it fails

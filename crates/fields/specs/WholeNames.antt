@@ -10,14 +10,13 @@ use mathlib.Core.List.{List, [], ◌∷◌}
 use Rattle.std.proofs.Math.ListN.{length, get_or-eq_default}
 use Rattle.std.proofs.Math.Seq.{slice, take-length}
 use Rattle.std.proofs.lemmas.Bool.{eqb-false}
-use Rattle.codec.specs.Codecs.{and_left, and_right, and_both}
+use Rattle.codec.proofs.Codecs.{and_left, and_right, and_both}
 use Rattle.model.specs.Bytes.{place_in}
 use Rattle.text.specs.declared.Skipped.{Skipped}
 use Rattle.text.specs.declared.Skipped.TheVariants.{Stop, Open}
 use Rattle.text.specs.declared.Token.{Token}
-use Rattle.text.specs.declared.Token.TheVariants as Token
 use Rattle.text.specs.Spaces.{white, spaces_at, spaces}
-use Rattle.text.specs.SpacesLaws.{spaces-other}
+use Rattle.text.proofs.SpacesLaws.{spaces-other}
 use Rattle.text.specs.Words.{letter, digit, word_byte, munch, munch_at, keywords}
 use Rattle.text.specs.Tokens.{code_of, key_tokens, key_token, word_token, sign_token, lexed, becomes, token_from, starts_at, behind, token_at}
 use Rattle.text.specs.StartsLaws.{starts-word}

@@ -1,6 +1,8 @@
 // The fields of a file's records, read at a place: numbers, counts, types, values, arguments and names.
 // Promises: each answers what its codec reads there, at every place; a refusal that came before is handed on.
 // Builds on the codecs of file, on the scanner and on cells.
+#![tactic(auto)]
+
 ghost use Rattle.std.specs.Prelude.{◌≡◌, ◌-◌, ◌<◌, length};
 ghost use Rattle.codec.specs.Numbers.{byte as one_byte, be};
 ghost use Rattle.text.specs.Words.{within as is_within};
@@ -13,14 +15,14 @@ pub use names::{function, name};
 pub use tested::{count, first, flag, kind, opcode, second, share, small_count, time, value};
 
 // A refusal, or 0 and the place behind what was read.
-#[derive(Drop)]
+#[derive(Clone, Copy)]
 pub struct Got {
     pub bad: u8,
     pub next: usize,
 }
 
 // The same with the number of the records that were read.
-#[derive(Drop)]
+#[derive(Clone, Copy)]
 pub struct Counted {
     pub bad: u8,
     pub next: usize,
@@ -28,7 +30,7 @@ pub struct Counted {
 }
 
 // The same with the number that was read.
-#[derive(Drop)]
+#[derive(Clone, Copy)]
 pub struct Number {
     pub bad: u8,
     pub next: usize,
@@ -36,7 +38,7 @@ pub struct Number {
 }
 
 // The same with the place where the bytes of a name begin.
-#[derive(Drop)]
+#[derive(Clone, Copy)]
 pub struct Span {
     pub bad: u8,
     pub next: usize,

@@ -98,6 +98,7 @@ pub fn opcode(s: &[u8], bad: u8, next: usize) -> Number
     checked(n, value < 8, 23)
 }
 
+#[tactic(auto, using(crate::specs::Forms::first_forms))]
 fn fits_first(opcode: u32, argument: u32) -> bool
     ensures { result ≡ fits_form (forms_of opcode).0 argument }
 {

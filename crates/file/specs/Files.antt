@@ -1,5 +1,5 @@
 -- The file of a table, written and read (document 01, 'The file').
-use Rattle.std.specs.Prelude.{refl, Bool, cond, ◌&&◌, List, [], ◌∷◌, ◌++◌, ℕ, eqb, length}
+use Rattle.std.specs.Prelude.{Bool, cond, ◌&&◌, List, [], ◌∷◌, ◌++◌, ℕ, eqb, length}
 use Rattle.codec.specs.Readings.{Reading, got, no}
 use Rattle.codec.specs.Codecs.{Codec}
 use Rattle.codec.specs.Numbers.{be}
@@ -28,7 +28,6 @@ table =
       modes = x.1.1.1.1.1.1.0;
       code = x.1.1.1.1.1.1.1;
     })
-    (λ t. refl) (λ x h. refl)
 
 -- ---- versions
 

@@ -9,8 +9,5 @@ pub mod Opened
 pub mod Samples
 pub mod Cases
 pub mod Bounds
-pub mod RoundTrips
 pub mod Answers
 pub mod Returned
-pub mod Tagged
-pub mod Numbers

@@ -1,5 +1,5 @@
 -- Sensors, actuators and tasks (document 01, 'The file').
-use Rattle.std.specs.Prelude.{refl, ◌&&◌, List, ℕ, ◌+◌, leb, length}
+use Rattle.std.specs.Prelude.{◌&&◌, List, ℕ, ◌+◌, leb, length}
 use Rattle.codec.specs.Codecs.{Codec}
 use Rattle.codec.specs.Numbers.{be}
 use Rattle.codec.specs.Sequences.{dep}
@@ -14,7 +14,7 @@ use Rattle.file.specs.Names.{name}
 unfoldable pub sensor : Codec Sensor
 sensor =
     shape (dep name (λ n. ℕ × List ℕ) (λ n. dep type (λ t. List ℕ) (λ t. name)))
-    (λ s. (s.name, (s.type, s.getter))) (λ x. record { name = x.0; type = x.1.0; getter = x.1.1 }) (λ s. refl) (λ x h. refl)
+    (λ s. (s.name, (s.type, s.getter))) (λ x. record { name = x.0; type = x.1.0; getter = x.1.1 })
 
 -- the sensors, with their count before them
 unfoldable pub sensors : Codec (List Sensor)
@@ -25,7 +25,7 @@ unfoldable pub actuator : Codec Actuator
 actuator =
     shape (dep name (λ n. ℕ × (ℕ × List ℕ)) (λ n. dep type (λ t. ℕ × List ℕ) (λ t. dep (value t) (λ v. List ℕ) (λ v. name))))
     (λ a. (a.name, (a.type, (a.start, a.setter))))
-    (λ x. record { name = x.0; type = x.1.0; start = x.1.1.0; setter = x.1.1.1 }) (λ a. refl) (λ x h. refl)
+    (λ x. record { name = x.0; type = x.1.0; start = x.1.1.0; setter = x.1.1.1 })
 
 -- the actuators, with their count before them
 unfoldable pub actuators : Codec (List Actuator)
@@ -37,7 +37,7 @@ actuators = list (count 2 actuator_room) actuator
 unfoldable pub output : Codec Output
 output =
     shape (dep name (λ n. ℕ × ℕ) (λ n. dep type (λ t. ℕ) value))
-    (λ o. (o.name, (o.type, o.start))) (λ x. record { name = x.0; type = x.1.0; start = x.1.1 }) (λ o. refl) (λ x h. refl)
+    (λ o. (o.name, (o.type, o.start))) (λ x. record { name = x.0; type = x.1.0; start = x.1.1 })
 
 -- inputs, or outputs, of the tasks before, and of this one too
 pub record Used : Type 0 where
@@ -64,7 +64,7 @@ task used =
     (λ f. dep (list (port_count used.inputs) type) (λ i. List Output)
     (λ i. list (port_count used.outputs) output))))
     (λ t. (t.name, (t.function, (t.inputs, t.outputs))))
-    (λ x. record { name = x.0; function = x.1.0; inputs = x.1.1.0; outputs = x.1.1.1 }) (λ t. refl) (λ x h. refl)
+    (λ x. record { name = x.0; function = x.1.0; inputs = x.1.1.0; outputs = x.1.1.1 })
 
 -- the tasks, with their count before them; ports are added up from task to task
 unfoldable pub tasks : Codec (List Task)

@@ -1,16 +1,17 @@
 // The E-code file: the table that it holds, and its bytes.
-// Promises, as theorems (specs/): reading what was written gives the same table, writing what was read the same bytes; no answer has another number than document 01's.
+// Promises, as theorems (proofs/): reading what was written gives the same table, writing what was read the same bytes; no answer has another number than document 01's.
 // Builds on codec, model and text.
+#![tactic(auto)]
 
 // The reader returns a table, which stands beside this answer, or one number and no table.
-#[derive(Drop)]
+#[derive(Clone, Copy)]
 pub enum ReadAnswer {
     Read,
     Refused(u8),
 }
 
 // Writing a table alone gives the length of its file, or one number.
-#[derive(Drop)]
+#[derive(Clone, Copy)]
 pub enum WriteAnswer {
     Wrote(usize),
     Refused(u8),

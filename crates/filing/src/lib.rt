@@ -1,6 +1,8 @@
 // The file of a table, put into a buffer part by part.
 // Promises: whatever the arrays of the table hold, the bytes of its file by their cells, as far as the buffer goes, and the place behind them.
 // Builds on writing.
+#![tactic(auto)]
+
 ghost use Rattle.std.specs.Prelude.{◌≡◌};
 ghost use Rattle.writing.specs.Puts.{Puts};
 ghost use Rattle.filing.specs.Whole.{ports_in, rest_in, table_by, Filed};
@@ -8,7 +10,7 @@ ghost use Rattle.filing.specs.Whole.{ports_in, rest_in, table_by, Filed};
 use tables::Table;
 
 // How many rows of each array are used.
-#[derive(Drop)]
+#[derive(Clone, Copy)]
 pub struct Counts {
     pub sensors: u32,
     pub actuators: u32,

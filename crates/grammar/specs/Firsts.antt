@@ -91,6 +91,13 @@ record Parts (x y : Expression) (w : List Letter) (o : List Item) : Type 0 where
 parted : {x y : Expression} {w : List Letter} {o : List Item} → Word (x ⊙ y) w o → Parts x y w o
 parted (joined {u = u} {v = v} {o = o} {p = p} a b) = record { front = u; back = v; whole = refl; ahead = o; rear = p; all = refl; one = a; two = b }
 
+-- a word goes along the first entry
+record AtHead (l : Letter) (v : List Letter) (o : List Item) (f : First) : Type 0 where
+  read : List Item
+  all : o ≡ f.out ++ read
+  fits : fits f.atom l ≡ true
+  word : Word (f.rest l) v read
+
 onto-from : (x k : Expression) {w : List Letter} {o : List Item} → Word (onto x k) w o → Parts x k w o
 unfolding onto
 onto-from nothing k {w} {o} p = record { front = []; back = w; whole = refl; ahead = []; rear = o; all = refl; one = empty; two = p }
@@ -148,6 +155,10 @@ module _ {l : Letter} where
   along-cases (f ∷ fs) (here e w) = inl (here e w)
   along-cases (f ∷ fs) (later a) = elim (along-cases fs a) [ inl b ↦ inl (later b) | inr b ↦ inr b ]
 
+  along-cons : {v : List Letter} {o : List Item} (f : First) (fs : List First) → Along l v o (f ∷ fs) → AtHead l v o f ⊎ Along l v o fs
+  along-cons f fs (here {p = p} e w) = inl (record { read = p; all = refl; fits = e; word = w })
+  along-cons f fs (later a) = inr a
+
   behind-to : {u v : List Letter} {o p : List Item} {k : Expression} {fs : List First} → Along l u o fs → Word k v p → Along l (u ++ v) (o ++ p) (behind k fs)
   unfolding behind
   behind-to {p = q} {k = k} (here {f = f} {p = p} e w) r = rw (append_assoc f.out p q) (here {f = record { atom = f.atom; out = f.out; rest = λ m. onto (f.rest m) k }} e (onto-to (f.rest l) k w r))
@@ -156,12 +167,15 @@ module _ {l : Letter} where
   behind-from : {w : List Letter} {o : List Item} (k : Expression) (fs : List First) → Along l w o (behind k fs) → Behind l k fs w o
   unfolding behind
   behind-from k [] a = absurd (none-along a)
-  behind-from k (f ∷ fs) (here e p) =
-      let r = onto-from (f.rest l) k p in
-      record { front = r.front; back = r.back; whole = r.whole; ahead = f.out ++ r.ahead; rear = r.rear; all = rw (append_assoc f.out r.ahead r.rear) (ap (λ (c : List Item). f.out ++ c) r.all); along = here e r.one; two = r.two }
-  behind-from k (f ∷ fs) (later a) =
-      let r = behind-from k fs a in
-      record { front = r.front; back = r.back; whole = r.whole; ahead = r.ahead; rear = r.rear; all = r.all; along = later r.along; two = r.two }
+  behind-from {w} {o} k (f ∷ fs) a = by (along-cons (record { atom = f.atom; out = f.out; rest = λ m. onto (f.rest m) k }) (behind k fs) a) (behind-from k fs)
+    where
+      by : AtHead l w o (record { atom = f.atom; out = f.out; rest = λ m. onto (f.rest m) k }) ⊎ Along l w o (behind k fs) → (Along l w o (behind k fs) → Behind l k fs w o) → Behind l k (f ∷ fs) w o
+      by (inl h) go =
+          let r = onto-from (f.rest l) k h.word in
+          record { front = r.front; back = r.back; whole = r.whole; ahead = f.out ++ r.ahead; rear = r.rear; all = h.all ∙ rw (append_assoc f.out r.ahead r.rear) (ap (λ (c : List Item). f.out ++ c) r.all); along = here h.fits r.one; two = r.two }
+      by (inr b) go =
+          let r = go b in
+          record { front = r.front; back = r.back; whole = r.whole; ahead = r.ahead; rear = r.rear; all = r.all; along = later r.along; two = r.two }
 
   within-to : (make : List Letter → Item) {v : List Letter} {o : List Item} {fs : List First} → Along l v o fs → Along l v (o ++ (make (l ∷ v) ∷ [])) (within make fs)
   unfolding within
@@ -171,10 +185,13 @@ module _ {l : Letter} where
   within-from : (make : List Letter → Item) {v : List Letter} {o : List Item} (fs : List First) → Along l v o (within make fs) → (p : List Item) × (o ≡ p ++ (make (l ∷ v) ∷ [])) × Along l v p fs
   unfolding within
   within-from make [] a = absurd (none-along a)
-  within-from make {v} (f ∷ fs) (here {p = q} e w) =
-      let r = unmade (λ u. make (l ∷ u)) w in
-      (f.out ++ r.0, ap (λ (c : List Item). f.out ++ c) r.1 ∙ sym (append_assoc f.out r.0 (make (l ∷ v) ∷ [])), here e r.2)
-  within-from make (f ∷ fs) (later a) = let r = within-from make fs a in (r.0, r.1, later r.2)
+  within-from make {v} {o} (f ∷ fs) a = by (along-cons (record { atom = f.atom; out = f.out; rest = λ m. reads (λ u. make (m ∷ u)) (f.rest m) }) (within make fs) a) (within-from make fs)
+    where
+      by : AtHead l v o (record { atom = f.atom; out = f.out; rest = λ m. reads (λ u. make (m ∷ u)) (f.rest m) }) ⊎ Along l v o (within make fs) → (Along l v o (within make fs) → (p : List Item) × (o ≡ p ++ (make (l ∷ v) ∷ [])) × Along l v p fs) → (p : List Item) × (o ≡ p ++ (make (l ∷ v) ∷ [])) × Along l v p (f ∷ fs)
+      by (inl h) go =
+          let r = unmade (λ u. make (l ∷ u)) h.word in
+          (f.out ++ r.0, h.all ∙ ap (λ (c : List Item). f.out ++ c) r.1 ∙ sym (append_assoc f.out r.0 (make (l ∷ v) ∷ [])), here h.fits r.2)
+      by (inr b) go = let r = go b in (r.0, r.1, later r.2)
 
   past_to : (o : List Item) {v : List Letter} {p : List Item} {fs : List First} → Along l v p fs → Along l v (o ++ p) (past o fs)
   unfolding past

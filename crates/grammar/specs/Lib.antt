@@ -9,8 +9,4 @@ pub mod Readings
 pub mod States
 pub mod Taken
 pub mod Operands
-pub mod DeclarationSteps
-pub mod ModeSteps
-pub mod Steps
 pub mod Comes
-pub mod Syntax

@@ -14,7 +14,7 @@ use Rattle.text.specs.declared.Item.{Item}
 use Rattle.text.specs.declared.Item.TheVariants as I
 use Rattle.text.specs.Tokens.{token_at, code_of, code_at, is, stands}
 use Rattle.text.specs.Expect.{got, want, want_any, want_word, either, name_of}
-use Rattle.text.specs.ExpectLaws.{refusal-bad, any-follows}
+use Rattle.text.proofs.ExpectLaws.{refusal-bad, any-follows}
 use Rattle.text.specs.WantLaws.{want-stuck, want-took, want-refused, any-took, word-took, word-refused, word-stuck}
 use Rattle.grammar.specs.Making.{with_count}
 use Rattle.grammar.specs.Readings.{chain}

@@ -1,6 +1,8 @@
 // Guards: what stands in a table's rows, read on demand, and whether it holds where the ports hold these words.
 // Promises: each answer is the definition's, for every row and every list of ports.
 // Builds on the guards of model and on cells.
+#![tactic(auto)]
+
 ghost use Rattle.std.specs.Prelude.{◌≡◌};
 ghost use Rattle.model.specs.Values.{word_of, operand_word, function_by, holds as holds_of};
 ghost use Rattle.guards.specs.Rows.{operand_by, guard_in};

@@ -1,6 +1,8 @@
 // What is kept of the heads of modes and activities, and of what they count, while the table is filled.
 // Promises that every answer is what the definitions of sheets say, for every input; where names are looked up, for a table whose index is right for the text.
 // Builds on sheets, on what names mean, and on cells.
+#![tactic(auto)]
+
 ghost use Rattle.std.specs.Prelude.{◌≡◌};
 ghost use Rattle.refusals.specs.Values.{number_of};
 ghost use Rattle.refusals.specs.Ports.{argument_named};

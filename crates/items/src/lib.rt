@@ -1,6 +1,8 @@
 // The items of a text, one at a place, and the answers of the first pass over all of them.
 // Promises that an item is what text's definition says of its place and state.
 // Builds on productions, wants, scan, text and model.
+#![tactic(auto)]
+
 ghost use Rattle.std.specs.Prelude.{◌≡◌};
 ghost use Rattle.text.specs.Items.{item_at};
 

@@ -1,6 +1,8 @@
 // The rules 4 to 8 and 11 that names, types, values, declarations and ports must keep, part by part.
 // Promises that each function answers with the first of its rules that is broken, in text order, as the definitions of refusals list them, where the index of the table is right for the text.
 // Builds on what names mean, and on the table of names.
+#![tactic(auto)]
+
 ghost use Rattle.std.specs.Prelude.{◌≡◌, [], ◌∷◌, ◌-◌, ltb};
 ghost use Rattle.refusals.specs.Checks.{first};
 ghost use Rattle.refusals.specs.Refusals.{long_name, clash as clashing, beyond_int};

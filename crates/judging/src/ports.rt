@@ -11,7 +11,7 @@ use refusals::{Row, Verdict};
 use text::Port;
 
 // What an argument breaks, and the type that it has.
-#[derive(Drop)]
+#[derive(Clone, Copy)]
 pub struct Argument {
     pub verdict: Verdict,
     pub typ: usize,

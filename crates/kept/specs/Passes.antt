@@ -9,7 +9,7 @@ use Rattle.std.proofs.Math.ListN.{length, get_or}
 use Rattle.text.specs.declared.State.{State}
 use Rattle.text.specs.declared.ReadItem.{ReadItem}
 use Rattle.text.specs.Items.{item_at, goes, items_from, refused_or, refused_in}
-use Rattle.text.specs.ItemsLaws.{from_on, from-stop, turn_on, turn-ahead}
+use Rattle.text.proofs.ItemsLaws.{from_on, from-stop, turn_on, turn-ahead}
 use Rattle.items.specs.declared.pass.FirstPass.{FirstPass}
 use Rattle.items.specs.declared.pass.FirstPass.TheVariants.{Fine}
 use Rattle.items.specs.Answers.{answered}

@@ -1,6 +1,8 @@
 // The items of a text, kept in an array of numbers that is lent: the first pass fills it, and later walks fetch from it.
 // Promises that the first pass answers with the leftmost 2 or 3 and keeps the items of the text in their order, as many as the array has room for, and that an item fetched is the item of the text at its place and state, for every array that the first pass left.
 // Builds on the items of a text.
+#![tactic(auto)]
+
 ghost use Rattle.std.specs.Prelude.{◌-◌, ◌/◌, min, length, get_or, ◌≡◌};
 ghost use Rattle.text.specs.Items.{item_at};
 ghost use Rattle.kept.specs.Rows.{state_of, read_of};
@@ -8,7 +10,7 @@ ghost use Rattle.kept.specs.Seen.{seen_of, seen_in};
 ghost use Rattle.kept.specs.Kept.{Kept, Looked};
 
 // What a search for a name looks at in a row: its kind, where its first name starts and ends, and the state and the place behind it.
-#[derive(Drop)]
+#[derive(Clone, Copy)]
 pub struct Seen {
     pub kind: usize,
     pub start: usize,

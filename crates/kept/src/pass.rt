@@ -9,7 +9,7 @@ use super::{states, storing};
 use items::FirstPass;
 
 // What a pass says: its answer, and how many rows it has laid.
-#[derive(Drop)]
+#[derive(Clone, Copy)]
 pub(crate) struct Passed {
     pub(crate) answer: FirstPass,
     pub(crate) rows: usize,

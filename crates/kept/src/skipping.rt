@@ -6,7 +6,7 @@ ghost use Rattle.kept.specs.Skips.{Skipped};
 use super::held;
 
 // Where a walk stops: the number of an item, and the state, by its number, and the place before it.
-#[derive(Drop)]
+#[derive(Clone, Copy)]
 pub struct Stop {
     pub item: usize,
     pub state: usize,

@@ -7,7 +7,7 @@ use super::states;
 use text::{Item, Literal, Name, Port};
 
 // A value in five numbers: which kind, its place, its flag, and where its name or its digits start and end.
-#[derive(Drop)]
+#[derive(Clone, Copy)]
 pub(crate) struct Value {
     pub(crate) kind: usize,
     pub(crate) at: usize,
@@ -17,7 +17,7 @@ pub(crate) struct Value {
 }
 
 // What a pass goes on by: the kind of an item, the number of the state behind it, and the next place.
-#[derive(Drop)]
+#[derive(Clone, Copy)]
 pub(crate) struct Turn {
     pub(crate) kind: usize,
     pub(crate) number: usize,

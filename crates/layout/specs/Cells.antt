@@ -1,11 +1,12 @@
 -- The cells of an array that holds the layout, by the records that they belong to.
-use Rattle.std.specs.Prelude.{ℕ, zero, suc, ◌+◌, ◌-◌, ◌*◌, ◌≤◌, ◌<◌, ◌≡◌, refl, true, List, [], ◌∷◌, ◌++◌, map, length, get_or, take}
+use Rattle.std.specs.Prelude.{ℕ, zero, suc, ◌+◌, ◌-◌, ◌*◌, ◌≤◌, ◌<◌, ◌≡◌, refl, true, List, [], ◌∷◌, ◌++◌, length, get_or, take}
 use Rattle.std.proofs.Common.{add-zero, zero-add, suc-mul, zero-mul, arith, sym, ap, ap₂, ◌∙◌, length-append, get_or-append-add}
 use Rattle.std.proofs.Math.ListN.{get_or-append}
-use Rattle.codec.specs.Codecs.{Codec, and_left, and_right}
+use Rattle.codec.specs.Codecs.{Codec}
+use Rattle.codec.proofs.Codecs.{and_left, and_right}
 use Rattle.codec.specs.Lists.{many_ok}
 use Rattle.model.specs.Modules.{Task, no_task, each, inputs_at, task_ports}
-use Rattle.layout.specs.Rows.{zeros, padded, rows, name_cells, names}
+use Rattle.layout.specs.Rows.{zeros, padded, rows}
 use Rattle.layout.specs.Plain.{task_cells, task_rows}
 use Rattle.layout.specs.Filling.{length-padded}
 

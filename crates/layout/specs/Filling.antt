@@ -1,6 +1,6 @@
 -- Arrays that are filled record by record: the laws by which they come to hold the layout.
-use Rattle.std.specs.Prelude.{ℕ, zero, suc, ◌+◌, ◌-◌, ◌*◌, ◌≤◌, ◌<◌, ◌≡◌, refl, Bool, true, get_or, set, take, drop, replicate}
-use Rattle.std.proofs.Common.{add-zero, add-suc, suc-add, suc-mul, zero-mul, arith, ◌∙◌, drop_of_length-le, take_at}
+use Rattle.std.specs.Prelude.{ℕ, zero, suc, ◌+◌, ◌-◌, ◌*◌, ◌≤◌, ◌<◌, ◌≡◌, refl, true, set, take, drop}
+use Rattle.std.proofs.Common.{add-zero, add-suc, suc-add, suc-mul, zero-mul, arith, ◌∙◌, take_at}
 use Rattle.std.proofs.Math.Numerals.{add-one, towards_suc}
 use Rattle.std.proofs.Math.Path.{sym, ap, ap₂, subst}
 use mathlib.Core.List.{List, [], ◌∷◌, ◌++◌, append-nil, append_assoc}
@@ -8,7 +8,8 @@ use Rattle.std.proofs.Math.ListN.{length, length-append}
 use Rattle.std.proofs.lemmas.List.{length-replicate, replicate-append-replicate}
 use Rattle.std.proofs.lemmas.List.Edits.{sets, sets-eq}
 use Rattle.std.proofs.Math.Seq.{length-sets, drop-append-add, append_snoc}
-use Rattle.codec.specs.Codecs.{Codec, and_left, and_right}
+use Rattle.codec.specs.Codecs.{Codec}
+use Rattle.codec.proofs.Codecs.{and_left, and_right}
 use Rattle.codec.specs.Lists.{run_ok}
 use Rattle.model.specs.Modules.{each}
 use Rattle.layout.specs.Rows.{zeros, padded, rows}

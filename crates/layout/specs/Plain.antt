@@ -8,7 +8,6 @@ use Rattle.model.specs.Instructions.{Instr, Driver, updates, releases, terminate
 use Rattle.file.specs.Tables.{Argument, port, fixed, GuardRow, ModeRow, Table}
 use Rattle.file.specs.Code.{triple_of}
 use Rattle.file.specs.References.{port_roles}
-use Rattle.file.specs.Files.{Answer, read, refused}
 use Rattle.tables.specs.declared.Table.{Table as Plain}
 use Rattle.layout.specs.Rows.{zeros, padded, rows, name_cells, names}
 

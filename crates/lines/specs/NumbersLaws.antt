@@ -10,8 +10,8 @@ use Rattle.std.proofs.Math.ListN.{length, length-drop}
 use borrow.Author.Tests.{eq-eqb, ne_eqb, lt-ltb, le-ltb, le-leb, lt-leb, leb-true}
 use Rattle.model.specs.Bytes.{bytes, same}
 use Rattle.text.specs.Words.{within, value}
-use Rattle.text.specs.WordsLaws.{same→eq}
-use Rattle.text.specs.SpacesLaws.{drop-step}
+use Rattle.text.proofs.WordsLaws.{same→eq}
+use Rattle.text.proofs.SpacesLaws.{drop-step}
 use Rattle.lines.specs.Numbers.{all, digit_in, digits, number_of, small_of, Small, hex_worth, bytes_of, unread, unspelled_of, Unspells}
 use Rattle.lines.specs.Buffers.{written, written_none, written-length}
 use Rattle.lines.specs.declared.numbers.Number.{Number}

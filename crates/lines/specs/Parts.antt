@@ -4,7 +4,7 @@ use Rattle.std.proofs.Common.{sym, ap, ◌∙◌, arith, leb-true, leb-false}
 use Rattle.std.proofs.Math.Seq.{slice, slice_empty, take-length, take-nil, drop-nil}
 use Rattle.scan.specs.Slices.{slice-clamp, slice-none}
 use Rattle.text.specs.Words.{munch_at}
-use Rattle.text.specs.TokensLaws.{munch-at-within}
+use Rattle.text.proofs.TokensLaws.{munch-at-within}
 use Rattle.lines.specs.declared.Part.{Part}
 
 -- whether a byte is another one

@@ -4,7 +4,7 @@ use Rattle.std.specs.Prelude.{◌≡◌, refl, List, [], ◌∷◌, ◌++◌, le
 use Rattle.std.proofs.Common.{sym, ap, ◌∙◌, length-set, length-drop, take_all, drop-cons, drop-set-lt, get_or-set_same, lt-ltb, le-ltb, eq-eqb, ne_eqb}
 use native.Mathlib.Omega.{arith}
 use Rattle.std.proofs.Math.Nat.{pow-succ'}
-use Rattle.text.specs.SpacesLaws.{drop-step}
+use Rattle.text.proofs.SpacesLaws.{drop-step}
 use Rattle.lines.specs.Sayings.{digits_before, decimal_of, glyph_of, pairs_of, hex_of, int_of, value_of, values_behind, values_of}
 
 -- ---- digits, the last first

@@ -10,9 +10,9 @@ use Rattle.std.proofs.Math.Seq.{slice, slice_empty}
 use Rattle.std.proofs.lemmas.Bool.{lt-leb}
 use Rattle.model.specs.Bytes.{bytes, same}
 use Rattle.text.specs.Words.{munch_at}
-use Rattle.text.specs.WordsLaws.{slice-step, munch-on, munch-out, munch-end}
-use Rattle.text.specs.TokensLaws.{munch-at-within}
-use Rattle.text.specs.SpacesLaws.{drop-step}
+use Rattle.text.proofs.WordsLaws.{slice-step, munch-on, munch-out, munch-end}
+use Rattle.text.proofs.TokensLaws.{munch-at-within}
+use Rattle.text.proofs.SpacesLaws.{drop-step}
 use Rattle.lines.specs.Buffers.{written, written_none, written_on, written-length}
 use Rattle.lines.specs.Parts.{differs, Found}
 use Rattle.lines.specs.Values.{value_in, pieces, list_in, all_values, types_in, words_in, listed_of, Lists}

@@ -1,6 +1,8 @@
 // The words of a request line and of its answer: bytes in hexadecimal, numbers, values (docs/CONSOLE.md).
 // Promises: each answer, and what each lent buffer then holds, is given by one definition, whatever the line says.
 // Builds on scan and cells.
+#![tactic(auto)]
+
 ghost use Rattle.std.specs.Prelude.{◌≡◌, min, length, eqb};
 ghost use Rattle.std.proofs.Math.Seq.{slice};
 ghost use Rattle.model.specs.Bytes.{same};
@@ -11,7 +13,7 @@ pub mod saying;
 pub mod values;
 
 // A word of a line, from one place to another, and the place behind its blank.
-#[derive(Drop)]
+#[derive(Clone, Copy)]
 pub struct Part {
     pub from: usize,
     pub to: usize,

@@ -8,7 +8,7 @@ ghost use Rattle.lines.specs.Numbers.{digit_in, digits, number_of, Small, hex_wo
 use super::{Part, saying};
 
 // A number, where the part of the line is one.
-#[derive(Drop)]
+#[derive(Clone, Copy)]
 pub struct Number {
     pub good: bool,
     pub value: u64,
@@ -84,7 +84,7 @@ pub fn small(line: &[u8], part: Part) -> Number
 }
 
 // Bytes, and how many there are.
-#[derive(Drop)]
+#[derive(Clone, Copy)]
 pub struct Unspelled {
     pub good: bool,
     pub size: usize,

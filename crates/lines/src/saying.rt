@@ -29,7 +29,7 @@ pub fn text(out: &mut [u8], at: usize, word: &[u8]) -> usize
 }
 
 // A number's digits: those from a place of twenty on.
-#[derive(Drop)]
+#[derive(Clone, Copy)]
 struct Digits {
     all: [u8; 20],
     from: usize,

@@ -8,14 +8,14 @@ use super::numbers::Number;
 use super::{Part, numbers};
 
 // Values, and how many are kept of them.
-#[derive(Drop)]
+#[derive(Clone, Copy)]
 pub struct Listed {
     pub good: bool,
     pub count: usize,
 }
 
 // A type and a word; the type 2, which no port has, for an int beyond 32 bits.
-#[derive(Drop)]
+#[derive(Clone, Copy)]
 struct Value {
     good: bool,
     typ: u32,

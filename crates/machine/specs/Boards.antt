@@ -1,5 +1,5 @@
 -- What the machine reads of a table: its board. Every list has its room's full length, so that a number past the end names something that does nothing.
-use Rattle.std.specs.Prelude.{ℕ, zero, suc, ◌+◌, ◌-◌, ◌*◌, Bool, true, false, cond, List, [], ◌∷◌, ◌++◌, map, length, get_or, replicate, eqb}
+use Rattle.std.specs.Prelude.{ℕ, suc, ◌+◌, ◌-◌, ◌*◌, cond, List, [], ◌∷◌, ◌++◌, map, length, get_or, replicate, eqb}
 use Rattle.model.specs.Bytes.{place_in}
 use Rattle.model.specs.Rooms.{sensor_room, actuator_room, task_room, mode_room, port_room, all_port_room, driver_room, guard_room}
 use Rattle.model.specs.Values.{value_of, function_names, function_by, no_operand, no_guard}

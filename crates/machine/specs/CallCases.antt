@@ -1,5 +1,5 @@
 -- Every call, computed, on a table of two modes, two tasks and two guards: each answer by its number, instructions and task, and all that the machine then shows.
-use Rattle.std.specs.Prelude.{ℕ, suc, ◌^◌, ◌≡◌, refl, Bool, true, false, cond, ◌&&◌, List, [], ◌∷◌, length, take, T, eqb}
+use Rattle.std.specs.Prelude.{ℕ, suc, ◌^◌, ◌≡◌, refl, Bool, true, cond, ◌&&◌, List, [], ◌∷◌, length, take, T, eqb}
 use Rattle.std.proofs.Math.Option.{Option, none, some}
 use Rattle.model.specs.Bytes.{bytes, same}
 use Rattle.model.specs.Values.{int, boolean, holds}
@@ -11,12 +11,12 @@ use Rattle.model.specs.declared.Operand.TheVariants.{Port, Fixed}
 use Rattle.file.specs.Tables.{port, fixed, Table}
 use Rattle.file.specs.Opened.{opened}
 use Rattle.machine.specs.Words.{lowest_from, count_from}
-use Rattle.machine.specs.Boards.{Board, operand_of, board_of}
+use Rattle.machine.specs.Boards.{operand_of, board_of}
 use Rattle.machine.specs.Instructions.{exec}
 use Rattle.machine.specs.Store.{part, reaction}
 use Rattle.machine.specs.Calls as C
 use Rattle.machine.specs.Calls.{State, Ticked, reacted, next_task, with_words, tasks_out}
-use Rattle.machine.specs.Asks.{Ask, tick, next, finish, Asked, means, asks}
+use Rattle.machine.specs.Asks.{Ask, tick, next, finish, means, asks}
 use Rattle.machine.specs.Starts.{start}
 use Rattle.machine.specs.Answers.{Meaning, reaction_means}
 

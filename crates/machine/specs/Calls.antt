@@ -1,5 +1,5 @@
 -- The calls of a machine: tick, next task, finish and look (document 01, 'The machine').
-use Rattle.std.specs.Prelude.{ℕ, zero, suc, ◌+◌, ◌-◌, ◌*◌, Bool, true, false, cond, ◌&&◌, not, List, [], ◌∷◌, ltb}
+use Rattle.std.specs.Prelude.{ℕ, ◌*◌, Bool, true, cond, ◌&&◌, not, List, [], ltb}
 use Rattle.std.proofs.Math.Option.{Option, none, some}
 use Rattle.model.specs.Rooms.{port_room, task_room}
 use Rattle.model.specs.Clock.{elapsed, Instant, early, due, missed, judged, fits}

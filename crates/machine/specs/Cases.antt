@@ -1,20 +1,19 @@
 -- The machine on tables written out, computed: the dock of the phantom bikes, and code that goes wrong.
-use Rattle.std.specs.Prelude.{ℕ, zero, suc, ◌≡◌, refl, Bool, true, false, ◌&&◌, List, [], ◌∷◌, length, take, T, eqb}
-use Rattle.std.proofs.Math.Option.{Option, none, some}
+use Rattle.std.specs.Prelude.{ℕ, Bool, ◌&&◌, List, [], ◌∷◌, length, take, T, eqb}
 use Rattle.model.specs.Bytes.{bytes, same}
 use Rattle.model.specs.Values.{int, holds}
 use Rattle.model.specs.Clock.{fits}
 use Rattle.model.specs.Modules.{port_types, port_starts}
-use Rattle.model.specs.Instructions.{Instr, nop, future, call, release, iff, jump, return, switch, updates, releases, terminates}
+use Rattle.model.specs.Instructions.{Instr, nop, future, call, release, jump, return, updates, releases, terminates}
 use Rattle.file.specs.Tables.{Table}
 use Rattle.file.specs.Opened.{opened}
 use Rattle.machine.specs.Words.{lowest_from}
-use Rattle.machine.specs.Boards.{Board, board_of}
+use Rattle.machine.specs.Boards.{board_of}
 use Rattle.machine.specs.Instructions.{exec}
 use Rattle.machine.specs.Store.{reaction}
 use Rattle.machine.specs.Calls.{State, reacted, tick, next_task, finish}
 use Rattle.machine.specs.Starts.{start}
-use Rattle.machine.specs.Answers.{Meaning, reaction_means, turn_means, finishing_means}
+use Rattle.machine.specs.Answers.{Meaning, reaction_means, finishing_means}
 
 -- sensor bikes, actuator sign, task count with an input and an output o := 10; this code
 dock : List Instr → Table

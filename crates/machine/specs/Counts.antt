@@ -7,7 +7,7 @@ use Rattle.machine.specs.Instructions.{Tally, no_tally}
 use Rattle.machine.specs.Store.{reaction}
 use Rattle.machine.specs.Calls as C
 use Rattle.machine.specs.Calls.{State, reacted, sensed}
-use Rattle.machine.specs.Asks.{Ask, tick, next, finish, Asked, asks}
+use Rattle.machine.specs.Asks.{Ask, tick, next, finish, asks}
 use Rattle.machine.specs.Starts.{fresh}
 
 -- A reaction counts where it is answered with its instructions; idle, refused and faulted calls count nothing.

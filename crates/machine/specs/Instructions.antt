@@ -1,5 +1,5 @@
 -- The instructions (document 01, 'The code' and 'The machine'; the TDL report's table), obeyed over any store of ports and tasks.
-use Rattle.std.specs.Prelude.{ℕ, zero, suc, ◌+◌, Bool, true, false, cond, List, [], ◌∷◌, get_or, drop}
+use Rattle.std.specs.Prelude.{ℕ, zero, suc, ◌+◌, Bool, cond, List, [], ◌∷◌, get_or, drop}
 use Rattle.std.proofs.Math.Option.{Option, none, some}
 use Rattle.model.specs.Instructions.{Instr, nop, future, call, release, iff, jump, return, switch}
 

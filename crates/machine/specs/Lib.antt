@@ -15,7 +15,6 @@ pub mod Asks
 pub mod Starts
 pub mod Counts
 pub mod CountLaw
-pub mod SoundLaws
 pub mod Answers
 pub mod Numbers
 pub mod Cases

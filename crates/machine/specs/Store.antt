@@ -1,13 +1,13 @@
 -- The machine's store: the ports, and which tasks are out, waiting and finished, as words; and what drivers and releases do to it.
 use Rattle.std.specs.Prelude.{ℕ, zero, suc, ◌+◌, ◌*◌, Bool, true, false, cond, List, [], ◌∷◌, get_or, set, length, drop}
-use Rattle.std.proofs.Math.Option.{Option, none, some}
+use Rattle.std.proofs.Math.Option.{none}
 use Rattle.model.specs.Rooms.{port_room}
 use Rattle.model.specs.Values.{holds, no_guard}
 use Rattle.model.specs.Modules.{place, copy_to}
-use Rattle.model.specs.Instructions.{Instr, Driver, updates, releases, terminates, no_driver}
+use Rattle.model.specs.Instructions.{Driver, updates, releases, terminates, no_driver}
 use Rattle.machine.specs.Words.{has, joined, parted}
 use Rattle.machine.specs.Boards.{Board, Lot, no_lot}
-use Rattle.machine.specs.Instructions.{Fault, late, clash, Res, ok, bad, Ops, Run, exec, no_tally}
+use Rattle.machine.specs.Instructions.{late, clash, Res, ok, bad, Ops, Run, exec, no_tally}
 
 -- ports, and the words of the tasks out, waiting and finished
 pub record Store : Type 0 where

@@ -140,14 +140,14 @@ lowest-from zero task word = refl
 lowest-from (suc n) task word =
     rw (lowest-from n (task + 1) word, half-on word task) (go (word / 2 ^ task % 2) (count_trailing_zeros n (word / 2 ^ task / 2)) (omega arith))
   where
-    go : (lowest zeros : ℕ) → lowest < 2 → cond (eqb lowest 1) (some task) (found n (task + 1) zeros) ≡ found (suc n) task (under lowest zeros)
-    go zero zeros small = further (ltb zeros n) refl
+    go : (lowest lower : ℕ) → lowest < 2 → cond (eqb lowest 1) (some task) (found n (task + 1) lower) ≡ found (suc n) task (under lowest lower)
+    go zero lower small = further (ltb lower n) refl
       where
-        further : (on : Bool) → ltb zeros n ≡ on → cond on (some (task + 1 + zeros)) none ≡ found (suc n) task (suc zeros)
-        further true on = rw (lt-ltb (suc zeros) (suc n) (omega (arith, ltb-true zeros n on))) (ap some (omega arith))
-        further false on = rw (le-ltb (suc zeros) (suc n) (omega (arith, ltb-false zeros n on))) refl
-    go (suc zero) zeros small = rw (lt-ltb 0 (suc n) (omega arith)) (ap some (omega arith))
-    go (suc (suc lowest)) zeros small = absurd (omega arith)
+        further : (on : Bool) → ltb lower n ≡ on → cond on (some (task + 1 + lower)) none ≡ found (suc n) task (suc lower)
+        further true on = rw (lt-ltb (suc lower) (suc n) (omega (arith, ltb-true lower n on))) (ap some (omega arith))
+        further false on = rw (le-ltb (suc lower) (suc n) (omega (arith, ltb-false lower n on))) refl
+    go (suc zero) lower small = rw (lt-ltb 0 (suc n) (omega arith)) (ap some (omega arith))
+    go (suc (suc lowest)) lower small = absurd (omega arith)
 
 pub lowest-zeros : (word : ℕ) → lowest_in word ≡ found 64 0 (count_trailing_zeros 64 word)
 lowest-zeros word = lowest-from 64 0 word ∙ rw div-one refl

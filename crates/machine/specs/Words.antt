@@ -1,5 +1,5 @@
 -- Words of 64 bits, a bit for each task (document 01, 'The machine': which tasks are out is one 64-bit word).
-use Rattle.std.specs.Prelude.{ℕ, zero, suc, ◌+◌, ◌-◌, ◌/◌, ◌%◌, ◌^◌, Bool, true, false, cond, eqb, ltb}
+use Rattle.std.specs.Prelude.{ℕ, zero, suc, ◌+◌, ◌-◌, ◌/◌, ◌%◌, ◌^◌, Bool, cond, eqb, ltb}
 use Rattle.std.proofs.Math.Option.{Option, none, some}
 
 -- the task is in the word

@@ -1,6 +1,6 @@
 -- A guard's argument without a dot is told by one look at its name: it may be a constant or a sensor.
 use Prim.Native.Nat.{ℕ, zero, suc, ◌≤◌, ◌<◌}
-use Rattle.std.proofs.Common.{arith, ◌∙◌}
+use Rattle.std.proofs.Common.{arith}
 use Rattle.std.specs.Prelude.{◌≡◌, List, false}
 use Rattle.std.proofs.Math.Path.{refl}
 use borrow.Author.Tests.{ne_eqb}

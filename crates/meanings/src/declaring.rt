@@ -11,7 +11,7 @@ use refusals::Row;
 use text::Name;
 
 // What an item declares: nothing, or one name.
-#[derive(Drop)]
+#[derive(Clone, Copy)]
 pub enum Declaration {
     Nothing,
     One(Row),

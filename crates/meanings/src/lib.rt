@@ -1,6 +1,8 @@
 // What the text's names, digits and values mean among the names that are declared before them, and what an item declares.
 // Promises that every answer is what the definitions of refusals say, for every text and every table whose index is right for it; a number is kept up to 4294967296.
 // Builds on the table of names, the scanner, and what the rules say of a row.
+#![tactic(auto)]
+
 ghost use Rattle.std.specs.Prelude.{◌≡◌, min};
 ghost use Rattle.refusals.specs.Names.{named as named_row};
 ghost use Rattle.refusals.specs.Values.{number_of, type_named, int_word, literal_type, literal_word};

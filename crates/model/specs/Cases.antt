@@ -1,15 +1,14 @@
 -- Values, guards, ports and the clock, computed.
-use Rattle.std.specs.Prelude.{ℕ, ◌≡◌, refl, Bool, true, false, ◌&&◌, not, List, [], ◌∷◌, T, eqb}
+use Rattle.std.specs.Prelude.{ℕ, ◌≡◌, refl, Bool, true, ◌&&◌, not, List, [], ◌∷◌, T, eqb}
 use Rattle.std.specs.Int.{w32}
 use Rattle.std.proofs.Common.{to_z}
 use Rattle.model.specs.declared.Value.TheVariants.{Int, Flag}
 use Rattle.model.specs.declared.Operand.TheVariants.{Port, Fixed}
 use Rattle.model.specs.declared.Function.{Function}
 use Rattle.model.specs.declared.Function.TheVariants.{IsTrue, IsFalse, Less, Equal}
-use Rattle.model.specs.declared.Guard.{Guard}
 use Rattle.model.specs.Bytes.{bytes, same, place_in}
 use Rattle.model.specs.Values.{int, boolean, word_of, value_of, holds, function_names}
-use Rattle.model.specs.Clock.{elapsed, Instant, early, due, missed, judged, fits}
+use Rattle.model.specs.Clock.{elapsed, early, due, missed, judged, fits}
 use Rattle.model.specs.Modules.{place, copy_to}
 
 -- a guard on ports that hold -1, 7 and true, and on the fixed values 7 and true

@@ -3,7 +3,7 @@ use Rattle.std.specs.Prelude.{◌≡◌, ℕ, ◌+◌, ◌-◌, ◌<◌, ◌≤�
 use Rattle.std.proofs.Common.{sym, arith, eq-eqb, ne_eqb}
 use Rattle.std.proofs.Math.Seq.{slice}
 use Rattle.model.specs.Bytes.{same}
-use Rattle.text.specs.WordsLaws.{slice-step}
+use Rattle.text.proofs.WordsLaws.{slice-step}
 use Rattle.scan.specs.Slices.{slice-clamp, slice-length, slice-none}
 
 -- a part that is not empty stands within the text, by its length

@@ -4,7 +4,7 @@ use Rattle.std.proofs.Common.{arith, sym, ◌∙◌, eqb-true, eq-eqb, ne_eqb, l
 use Rattle.std.proofs.Math.Path.{refl, ap}
 use Rattle.std.proofs.lemmas.Bool.{eqb-false}
 use Rattle.model.specs.Bytes.{same}
-use Rattle.text.specs.WordsLaws.{same→eq}
+use Rattle.text.proofs.WordsLaws.{same→eq}
 use Rattle.refusals.specs.declared.Row.{Row}
 use Rattle.refusals.specs.Names.{unknown, is_row, find}
 use Rattle.names.specs.declared.Scope.{Scope}

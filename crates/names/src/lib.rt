@@ -1,6 +1,8 @@
 // The table of declared names: an index and rows of eight numbers each, in one array that is lent.
 // Promises that every answer is what the definitions say of the rows that stand in the array, where its index is right, and that each declaration keeps it right.
 // Builds on the laws of parts of a text, and on what a row is in the rules.
+#![tactic(auto)]
+
 ghost use Rattle.std.specs.Prelude.{◌≡◌, ℕ, ◌+◌, ◌<◌, ◌≤◌, min, true, List, length, if◌then◌else◌, ◌==◌, slice_index, slice_index_or};
 ghost use Rattle.std.proofs.Math.Seq.{slice};
 ghost use Rattle.model.specs.Bytes.{same};
@@ -16,14 +18,14 @@ mod hashing;
 mod storing;
 
 // A scope by its number, or that of a task's ports by the task's.
-#[derive(Drop)]
+#[derive(Clone, Copy)]
 pub enum Scope {
     Numbered(usize),
     OfTask(usize),
 }
 
 // Which rows are counted: those of a sort; the ports; those of a sort among the ports of a scope.
-#[derive(Drop)]
+#[derive(Clone, Copy)]
 pub enum Sought {
     Sort(usize),
     Port,

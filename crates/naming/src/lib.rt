@@ -1,6 +1,8 @@
 // The names in a table's rows, and its ports by their names, said into a buffer; what is behind its end is lost.
 // Promises: what is said, and the place behind it, is given by one definition, whatever the rows hold.
 // Builds on lines and cells.
+#![tactic(auto)]
+
 ghost use Rattle.std.specs.Prelude.{◌≡◌, ◌*◌, ◌-◌, ◌≤◌, ◌<◌, min};
 ghost use Rattle.lines.specs.Buffers.{Said};
 ghost use Rattle.naming.specs.Names.{name_of, among_of, has_of, owner_from, outputs_of, input_of, task_port_of, port_of};

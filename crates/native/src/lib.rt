@@ -2,6 +2,8 @@
 // in three of them (crate calls): numbers, marks and sets.
 // Promises: each is the definition of its call, its answer as document 01's numbers; what each lent array then holds is settled, after a refusal too.
 // Builds on tdl, ecode and calls, and for the machine as one record on emachine.
+#![tactic(auto)]
+
 ghost use Rattle.std.specs.Prelude.{◌≡◌, ℕ, List, [], length};
 ghost use Rattle.file.specs.Answers.{answer_of, read_number};
 ghost use Rattle.file.specs.Files.{decode};
@@ -24,7 +26,7 @@ use prescribed::Compiled;
 
 // The compiler's answer: the refusal's number, or 0; the refusal's byte offset, or the length of the file.
 #[repr(C)]
-#[derive(Drop)]
+#[derive(Clone, Copy)]
 pub struct Translation {
     pub number: u8,
     pub place: usize,
@@ -32,7 +34,7 @@ pub struct Translation {
 
 // Where a machine stands, as one record.
 #[repr(C)]
-#[derive(Drop)]
+#[derive(Clone, Copy)]
 pub struct Held {
     pub clock: u32,
     pub remaining: u32,
@@ -48,7 +50,7 @@ pub struct Held {
 
 // The answer of a machine's call: the number of a refusal or a fault, or 0; the instructions obeyed; the task that is named, or 4294967295.
 #[repr(C)]
-#[derive(Drop)]
+#[derive(Clone, Copy)]
 pub struct Face {
     pub number: u8,
     pub instructions: u32,
@@ -73,8 +75,7 @@ fn compiled(answer: Compiled) -> Translation
 }
 
 // The file of a text at the front of the buffer, or the refusal.
-#[unsafe(no_mangle)]
-pub extern "C" fn native_compile(text: &[u8], out: &mut [u8]) -> Translation
+pub fn native_compile(text: &[u8], out: &mut [u8]) -> Translation
     ensures answer { result ≡ translation (answered (compile_of text.now (length out.old))) }
     ensures buffer { out.new ≡ buffered out.old (compile_of text.now (length out.old)) }
 {
@@ -94,8 +95,7 @@ fn read_number(answer: ReadAnswer) -> u8
 }
 
 // What a machine needs of the table that some bytes hold, into arrays of the host; beside a refusal, its number, they are blank.
-#[unsafe(no_mangle)]
-pub extern "C" fn native_read(
+pub fn native_read(
     bytes: &[u8],
     counts: &mut [u32; 3],
     code: &mut [u32; 12288],
@@ -181,8 +181,7 @@ fn finish_face(answer: Finishing) -> Face
 }
 
 // A tick at a count, with the types and words of the readings.
-#[unsafe(no_mangle)]
-pub extern "C" fn native_tick<'a, 'b>(
+pub fn native_tick<'a, 'b>(
     instructions: u32,
     code: &'a [u32; 12288],
     drivers: &'a [u32; 3456],
@@ -232,8 +231,7 @@ pub extern "C" fn native_tick<'a, 'b>(
 }
 
 // The next task to run.
-#[unsafe(no_mangle)]
-pub extern "C" fn native_next(marks: &[u8; 2], sets: &mut [u64; 3]) -> Face
+pub fn native_next(marks: &[u8; 2], sets: &mut [u64; 3]) -> Face
     ensures answer { (numbers ports aside : List ℕ) → result ≡ turn_face (next_task (state_by numbers marks.now sets.old ports aside)) }
     ensures state { (numbers ports aside : List ℕ) → state_by numbers marks.now sets.new ports aside
         ≡ (next_task (state_by numbers marks.now sets.old ports aside)).state }
@@ -245,8 +243,7 @@ pub extern "C" fn native_next(marks: &[u8; 2], sets: &mut [u64; 3]) -> Face
 }
 
 // A task is finished, with the types and words of its results, which go aside.
-#[unsafe(no_mangle)]
-pub extern "C" fn native_finish<'a, 'b>(
+pub fn native_finish<'a, 'b>(
     tasks: &'a [u32; 128],
     wanted: &'a [u32; 320],
     aside: &mut [u32; 256],
@@ -314,8 +311,7 @@ fn ticked<'b>(m: Machine, later: u32, times: u32, types: &'b [u32], words: &'b [
 }
 
 // The file that some bytes hold, started at a count and ticked so many times: where the machine then stands.
-#[unsafe(no_mangle)]
-pub extern "C" fn native_ticks<'a, 'b>(
+pub fn native_ticks<'a, 'b>(
     bytes: &'a [u8],
     count: u32,
     later: u32,

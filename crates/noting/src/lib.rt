@@ -1,6 +1,8 @@
 // What the judging pass knows at a place of the text beside the table of names, and how each item adds to it.
 // Promises that it grows by each item as its definitions say, for every text and every item; their laws tie it to the module so far.
 // Builds on what names mean, on the rules of activities, and on the table of names.
+#![tactic(auto)]
+
 ghost use Rattle.std.specs.Prelude.{◌≡◌, ◌||◌, ◌-◌};
 ghost use Rattle.activities.specs.Operands.{settled as settled_type};
 ghost use Rattle.noting.specs.Known.{nothing_known, one_more, begun_by, headed_by, guarded_by, operated_by, invoked_by, argued_by, updated_by, switched_by};
@@ -12,7 +14,7 @@ pub mod laying;
 
 // Whether a start mode was seen; the mode's period; the frequency of its activity; how many tasks it invokes, how many actuators it updates and
 // how many activities it has; the type that a guard's operands must have, and how many are left; the task whose arguments are read, and the number of the next.
-#[derive(Drop)]
+#[derive(Clone, Copy)]
 pub struct Known {
     pub started: bool,
     pub period: usize,

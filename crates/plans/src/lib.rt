@@ -1,6 +1,8 @@
 // Modes, guards, activities and drivers of a module, filled item by item into the arrays of its table and into the rows that code generation takes.
 // Promises that each item, as a row of sixteen numbers, changes the arrays as the definition says (crate sheets), for every input with a table of names whose index is right for the text.
 // Builds on sheets, heads and entries, and on the rows of kept items.
+#![tactic(auto)]
+
 ghost use Rattle.std.specs.Prelude.{◌≡◌, ◌<◌, get_or};
 ghost use Rattle.kept.specs.Rows.{fields_in, item_of, name_at, port_at};
 ghost use Rattle.names.specs.Tables.{rows_in};

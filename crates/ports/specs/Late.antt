@@ -6,7 +6,7 @@ use Rattle.text.specs.declared.State.{State}
 use Rattle.text.specs.declared.State.TheVariants as Q
 use Rattle.text.specs.declared.Item.{Item}
 use Rattle.text.specs.declared.Item.TheVariants as I
-use Rattle.text.specs.PartsLaws.{unsaid}
+use Rattle.text.proofs.PartsLaws.{unsaid}
 use Rattle.text.specs.Items.{item_at, goes, onto, items_in, items_from, refused_or}
 use Rattle.timing.specs.SlotLaws.{Each}
 use Rattle.accepted.specs.Steps.{Comes, module-begins, module-section, constant, sensor, actuator, task-begins, task-section, input, output, task-ends, mode-begins, mode-section, activity, guard-alone, guard, guard-arg, guard-last, invoke-alone, invoke, arg, arg-last, update, switch, mode-ends, module-ends, text-ends, item-comes}

@@ -11,7 +11,7 @@ use super::rows;
 use text::{Literal, Name};
 
 // The port that an item makes; none where what it is is 0.
-#[derive(Drop)]
+#[derive(Clone, Copy)]
 pub(super) struct Made {
     pub(super) role: u32,
     pub(super) typ: u32,

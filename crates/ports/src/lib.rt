@@ -1,6 +1,8 @@
 // What the declarations of a text put into the arrays of a table: names, ports and the rows of tasks.
 // Promises: for every text, table of names with a right index, row of an item and array, each cell is what the definition of that item puts there (specs/), and nothing else changes.
 // Builds on the rows of kept items, on what names and values mean, and on the layout of a table.
+#![tactic(auto)]
+
 ghost use Rattle.std.specs.Prelude.{true, ◌≡◌};
 ghost use Rattle.kept.specs.Rows.{fields_in, item_of};
 ghost use Rattle.names.specs.Tables.{rows_in};
@@ -19,7 +21,7 @@ mod titles;
 
 // How many there are so far: sensors, actuators, tasks that are complete, rows of tasks' names, rows of outputs' names, and ports; then of the
 // task under way its first port, and how many inputs and outputs it has.
-#[derive(Drop)]
+#[derive(Clone, Copy)]
 pub struct Ports {
     pub sensors: u32,
     pub actuators: u32,

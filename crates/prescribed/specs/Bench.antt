@@ -1,5 +1,5 @@
 -- Document 01, 'Bench cases': those marked (P), in one table and one theorem, on the definitions of compiler, file and machine.
-use Rattle.std.specs.Prelude.{ℕ, zero, suc, ◌+◌, Bool, true, false, ◌&&◌, List, [], ◌∷◌, length, take, T, eqb}
+use Rattle.std.specs.Prelude.{ℕ, ◌+◌, Bool, true, false, ◌&&◌, List, [], ◌∷◌, length, take, T, eqb}
 use Rattle.std.proofs.Math.Option.{Option, none, some}
 use Rattle.model.specs.Bytes.{bytes, same}
 use Rattle.model.specs.Values.{int, holds}
@@ -20,7 +20,7 @@ use Rattle.machine.specs.Instructions.{exec}
 use Rattle.machine.specs.Store.{reaction}
 use Rattle.machine.specs.Calls as C
 use Rattle.machine.specs.Calls.{State, Ticked, reacted, next_task}
-use Rattle.machine.specs.Asks.{Ask, tick, next, finish, Asked, means, asks}
+use Rattle.machine.specs.Asks.{Ask, tick, next, finish, means, asks}
 use Rattle.machine.specs.Starts.{start}
 use Rattle.machine.specs.Answers.{Meaning, reaction_means}
 use Rattle.prescribed.specs.Tables.{table_of}

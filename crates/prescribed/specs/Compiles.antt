@@ -1,5 +1,5 @@
 -- What the compiler answers for a text and a buffer of a length (document 01, 'When the compiler says no').
-use Rattle.std.specs.Prelude.{ℕ, Bool, true, false, cond, List, length, ltb}
+use Rattle.std.specs.Prelude.{ℕ, cond, List, length, ltb}
 use Rattle.std.proofs.Math.Option.{Option, none, some}
 use Rattle.model.specs.Rooms.{text_room, code_room}
 use Rattle.model.specs.Modules.{Module}

@@ -1,5 +1,5 @@
 -- Refusals 1, 13 and 14 by cases, on both sides of each limit (document 01, 'When the compiler says no').
-use Rattle.std.specs.Prelude.{ℕ, zero, suc, Bool, true, false, ◌&&◌, List, [], ◌∷◌, ◌++◌, length, T}
+use Rattle.std.specs.Prelude.{ℕ, zero, suc, ◌&&◌, List, [], ◌∷◌, ◌++◌, length, T}
 use Prim.Native.String.{String}
 use Rattle.model.specs.Bytes.{bytes, same}
 use Rattle.text.specs.Items.{refused_in}
@@ -9,7 +9,7 @@ use Rattle.timing.specs.Slots.{spans}
 use Rattle.timing.specs.Rules.{next_instant}
 use Rattle.timing.specs.Code.{code_of, begins_of, drivers_of, code_from, begins_from, mode_code, later_blocks, back, front, instants_of, instants_from}
 use Rattle.prescribed.specs.Tables.{table_of}
-use Rattle.prescribed.specs.Compiles.{Compiling, refused, file_of, compile_of}
+use Rattle.prescribed.specs.Compiles.{file_of, compile_of}
 use Rattle.prescribed.specs.Bench.{is_file, is_refusal, smallest}
 
 -- ---- 1: 16,385 bytes are too many, 16,384 are not

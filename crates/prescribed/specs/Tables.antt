@@ -1,5 +1,5 @@
 -- The table of a module: what its file holds (document 01, 'The code' and 'The file').
-use Rattle.std.specs.Prelude.{ℕ, Bool, true, false, cond, List, [], ◌∷◌, map, get_or, take}
+use Rattle.std.specs.Prelude.{ℕ, cond, List, [], ◌∷◌, map, get_or, take}
 use Rattle.model.specs.Values.{int, boolean, word_of, function_names, function_number, operands_of}
 use Rattle.model.specs.Modules.{Module, Mode}
 use Rattle.model.specs.declared.Value.{Value}

@@ -4,9 +4,9 @@ use Rattle.std.proofs.Common.{ap, arith, eqb-true}
 use Rattle.text.specs.declared.Token.TheVariants as T
 use Rattle.text.specs.declared.Lexed.{Lexed}
 use Rattle.text.specs.Tokens.{token_at, code_at, code_of, is}
-use Rattle.text.specs.TokensLaws.{token-here}
+use Rattle.text.proofs.TokensLaws.{token-here}
 use Rattle.text.specs.Productions.{count_at}
-use Rattle.text.specs.CountLaws.{count-name}
+use Rattle.text.proofs.CountLaws.{count-name}
 
 pub past-name : (s : List ℕ) (at : ℕ) (found : Lexed) → found ≡ token_at s at → is T.Name found ≡ true → count_at s at ≡ count_at s found.end
 unfolding count_at

@@ -1,6 +1,8 @@
 // The productions of the grammar: as much of the text as makes one item, token by token.
 // Promises that each function answers what text's definition of its production says, whether it is refused or not.
 // Builds on wants, scan, text and model.
+#![tactic(auto)]
+
 ghost use Rattle.std.specs.Prelude.{◌≡◌};
 ghost use Rattle.text.specs.Expect.{name_of, closed};
 

@@ -8,7 +8,7 @@ use super::name_of;
 use text::{Got, Lexed, Port, Token};
 
 // A port that was read, the reading that goes on behind it, and the token found there.
-#[derive(Drop)]
+#[derive(Clone, Copy)]
 pub struct Ahead {
     pub past: Got,
     pub port: Port,

@@ -2,6 +2,8 @@
 // Promises: `react` is the definition's reaction for every row, every state and every list of readings; after a fault the ports are
 // what they were.
 // Builds on the instructions and the store of machine, on steps, guards and bits.
+#![tactic(auto)]
+
 ghost use Rattle.std.specs.Prelude.{◌≡◌, List, ℕ};
 ghost use Rattle.model.specs.Modules.{place as placed};
 ghost use Rattle.machine.specs.Store.{reaction};
@@ -12,7 +14,7 @@ ghost use Rattle.react.specs.Runs.{shown, shows, closes, carries, leaving};
 use steps::{Driven, Ending, Halted};
 
 // How a reaction ended, and the number of instructions obeyed; 0 after a fault.
-#[derive(Drop)]
+#[derive(Clone, Copy)]
 pub struct Ran {
     pub ending: Ending,
     pub steps: u32,

@@ -4,10 +4,12 @@ use Rattle.std.proofs.Common.{arith, sym, ◌∙◌, leb-true}
 use Rattle.std.proofs.Math.Path.{ap, subst}
 use mathlib.Core.List.{List, [], ◌∷◌, ◌++◌, map, append-nil}
 use Rattle.std.proofs.Math.ListN.{length, set, length-map, length-append}
-use Rattle.codec.specs.Codecs.{Codec, and_right}
-use Rattle.codec.specs.Sequences.{dep-ok}
-use Rattle.codec.specs.Views.{shape-ok, check-ok}
-use Rattle.codec.specs.Lists.{list, many_ok, list-ok}
+use Rattle.codec.specs.Codecs.{Codec}
+use Rattle.codec.proofs.Codecs.{and_right}
+use Rattle.codec.proofs.Sequences.{dep-ok}
+use Rattle.codec.proofs.Views.{shape-ok, check-ok}
+use Rattle.codec.specs.Lists.{list, many_ok}
+use Rattle.codec.proofs.Lists.{list-ok}
 use Rattle.model.specs.Modules.{Output, Task}
 use Rattle.file.specs.Parts.{type}
 use Rattle.file.specs.Records.{output, port_count, Used, task}
@@ -35,7 +37,7 @@ shared c used xs h =
 pub task-fits : (u : Used) (t : Task) → (task u).ok t ≡ true → TaskFits u t
 unfolding task
 task-fits u t h =
-    let (n, r) = dep-ok _ _ _ t.name (t.function, (t.inputs, t.outputs)) (shape-ok _ _ _ _ _ t h) in
+    let (n, r) = dep-ok _ _ _ t.name (t.function, (t.inputs, t.outputs)) (shape-ok _ _ _ t h) in
     let (f, s) = dep-ok _ _ _ t.function (t.inputs, t.outputs) r in
     let (i, o) = dep-ok _ _ _ t.inputs t.outputs s in
     let (p, q) = shared output u.outputs t.outputs o in
@@ -45,7 +47,7 @@ task-fits u t h =
 
 output-named : (o : Output) → output.ok o ≡ true → length o.name ≤ 32
 unfolding output
-output-named o h = name-short o.name (dep-ok _ _ _ o.name (o.type, o.start) (shape-ok _ _ _ _ _ o h)).0
+output-named o h = name-short o.name (dep-ok _ _ _ o.name (o.type, o.start) (shape-ok _ _ _ o h)).0
 
 pub record OutputsIn (titles : List (List ℕ)) (front begins : List ℕ) (done : List Output) (l : Ported) : Type 0 where
   pub names : Rowed 33 4224 name_cells (titles ++ map (λ o. o.name) done) l.names

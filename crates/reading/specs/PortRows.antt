@@ -5,8 +5,8 @@ use Rattle.std.proofs.Math.Path.{ap}
 use mathlib.Core.List.{List, [], ◌∷◌, ◌++◌, map, append-nil}
 use Rattle.std.proofs.Math.ListN.{length, set}
 use Rattle.std.proofs.lemmas.List.{length-map}
-use Rattle.codec.specs.Sequences.{dep-ok}
-use Rattle.codec.specs.Views.{shape-ok}
+use Rattle.codec.proofs.Sequences.{dep-ok}
+use Rattle.codec.proofs.Views.{shape-ok}
 use Rattle.model.specs.Modules.{Sensor, Actuator, each}
 use Rattle.file.specs.Names.{name}
 use Rattle.file.specs.Records.{sensor, sensors, actuator, actuators}
@@ -29,7 +29,7 @@ padded-map-more f room at front done x e h =
 sensor-names : (x : Sensor) → sensor.ok x ≡ true → (length x.name ≤ 32) × (length x.getter ≤ 32)
 unfolding sensor
 sensor-names x h =
-    let (n, r) = dep-ok _ _ _ x.name (x.type, x.getter) (shape-ok _ _ _ _ _ x h) in
+    let (n, r) = dep-ok _ _ _ x.name (x.type, x.getter) (shape-ok _ _ _ x h) in
     (name-short x.name n, name-short x.getter (dep-ok _ _ _ x.type x.getter r).1)
 
 record SensorsIn (done : List Sensor) (l : List ℕ × List ℕ) : Type 0 where
@@ -60,7 +60,7 @@ sensors-filled xs h =
 actuator-names : (x : Actuator) → actuator.ok x ≡ true → (length x.name ≤ 32) × (length x.setter ≤ 32)
 unfolding actuator
 actuator-names x h =
-    let (n, r) = dep-ok _ _ _ x.name (x.type, (x.start, x.setter)) (shape-ok _ _ _ _ _ x h) in
+    let (n, r) = dep-ok _ _ _ x.name (x.type, (x.start, x.setter)) (shape-ok _ _ _ x h) in
     let (t, v) = dep-ok _ _ _ x.type (x.start, x.setter) r in
     (name-short x.name n, name-short x.setter (dep-ok _ _ _ x.start x.setter v).1)
 

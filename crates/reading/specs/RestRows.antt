@@ -2,8 +2,8 @@
 use Rattle.std.specs.Prelude.{ℕ, ◌+◌, ◌*◌, ◌≤◌, ◌<◌, ◌≡◌, refl, true, List, [], ◌∷◌, ◌++◌, map, length}
 use Rattle.std.proofs.Common.{arith, sym, ap₂, subst, lit≤}
 use Rattle.std.proofs.lemmas.List.{map-append, length-map}
-use Rattle.codec.specs.Sequences.{dep-ok}
-use Rattle.codec.specs.Views.{shape-ok}
+use Rattle.codec.proofs.Sequences.{dep-ok}
+use Rattle.codec.proofs.Views.{shape-ok}
 use Rattle.model.specs.Instructions.{Instr, Driver}
 use Rattle.file.specs.Tables.{GuardRow, ModeRow}
 use Rattle.file.specs.Names.{name}
@@ -32,7 +32,7 @@ code-filled xs h =
 
 mode-named : (m : ModeRow) → mode.ok m ≡ true → length m.name ≤ 32
 unfolding mode
-mode-named m h = name-short m.name (dep-ok _ _ _ m.name (m.start, (m.period, m.begin)) (shape-ok _ _ _ _ _ m h)).0
+mode-named m h = name-short m.name (dep-ok _ _ _ m.name (m.start, (m.period, m.begin)) (shape-ok _ _ _ m h)).0
 
 record ModesIn (done : List ModeRow) (l : List ℕ × List ℕ) : Type 0 where
   names : Rowed 33 264 name_cells (map (λ m. m.name) done) l.0

@@ -3,8 +3,9 @@ use Rattle.std.specs.Prelude.{ℕ, suc, ◌+◌, ◌*◌, ◌≤◌, ◌<◌, �
 use Rattle.std.proofs.Common.{mul-le-mul_right, suc-mul, arith, sym, ap, ◌∙◌, subst, append_assoc, length-append, leb-true}
 use Rattle.std.proofs.lemmas.List.{map-append}
 use Rattle.codec.specs.Codecs.{Codec}
-use Rattle.codec.specs.Views.{check-ok}
-use Rattle.codec.specs.Lists.{list, many_ok, list-ok}
+use Rattle.codec.proofs.Views.{check-ok}
+use Rattle.codec.specs.Lists.{list, many_ok}
+use Rattle.codec.proofs.Lists.{list-ok}
 use Rattle.model.specs.Modules.{each}
 use Rattle.file.specs.Parts.{count}
 use Rattle.file.specs.Names.{name}

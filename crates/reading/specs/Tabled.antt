@@ -9,6 +9,7 @@ use Rattle.file.specs.Names.{name}
 use Rattle.file.specs.Records.{sensors, actuators, tasks}
 use Rattle.file.specs.Code.{drivers, guards, modes, code}
 use Rattle.file.specs.Files.{table}
+use Rattle.file.proofs.Files.{table-lawful}
 use Rattle.layout.specs.Plain.{struct_of, blank}
 use Rattle.fields.specs.Taking.{Point, at, Takes}
 use Rattle.fields.specs.TakingLaws.{takes-both, takes-shape, takes-in-read}
@@ -23,14 +24,14 @@ bytes-from s next h = record { below = λ i. subst (λ (x : ℕ). x < 256) (sym 
 
 -- a table that was read can stand in a file
 pub table-fine : {s : List ℕ} (next : ℕ) (t : Table) (rest : List ℕ) → Bytes s → table.get (drop next s) ≡ got t rest → table.ok t ≡ true
-table-fine {s} next t rest h p = (table.back (drop next s) t rest (bytes-from s next h) p).1
+table-fine {s} next t rest h p = (table-lawful.back (drop next s) t rest (bytes-from s next h) p).1
 
 -- name, sensors and actuators; tasks; drivers, guards, modes and code
 module _ {s : List ℕ} {p q r v : Point Plain} where
   pub table_taken : Takes s (dep name _ (λ x. dep sensors _ (λ x. actuators))) store_ports p q → Takes s tasks store_tasks q r
       → Takes s (dep drivers _ (λ x. dep guards _ (λ x. dep modes _ (λ x. code)))) store_rest r v → Takes s table put_in p v
   unfolding table put_in
-  table_taken t u w = takes-shape _ _ _ _ _ (takes-behind name sensors actuators t (takes-both u w))
+  table_taken t u w = takes-shape _ _ _ (takes-behind name sensors actuators t (takes-both u w))
 
 pub table-struct : {s : List ℕ} {next bad next' : ℕ} {l : Plain} → Bytes s → Takes s table put_in (at 0 next blank) (at bad next' l)
     → Takes s table (λ t old. struct_of t) (at 0 next blank) (at bad next' l)

@@ -8,8 +8,8 @@ use mathlib.Core.List.{List, [], ◌∷◌, ◌++◌, map, append_assoc, append-
 use Rattle.std.proofs.Math.Dec.{lit≤}
 use Rattle.std.proofs.Math.ListN.{length, length-map, length-append}
 use borrow.Author.Tests.{leb-true}
-use Rattle.codec.specs.Views.{check-ok}
-use Rattle.codec.specs.Lists.{running-ok}
+use Rattle.codec.proofs.Views.{check-ok}
+use Rattle.codec.proofs.Lists.{running-ok}
 use Rattle.model.specs.Modules.{Task, each, task_ports, task_types, task_starts}
 use Rattle.file.specs.Parts.{count}
 use Rattle.file.specs.Records.{Used, none_used, used_with, task, tasks}

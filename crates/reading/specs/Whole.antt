@@ -2,8 +2,8 @@
 use Rattle.std.specs.Prelude.{ℕ, ◌+◌, ◌≤◌, ◌≡◌, refl, true, List, [], ◌++◌, map, length, replicate}
 use Rattle.std.proofs.Common.{arith, sym, ap, ap₂, ◌∙◌, append_assoc, length-append}
 use Rattle.std.proofs.lemmas.List.{length-map, length-replicate}
-use Rattle.codec.specs.Sequences.{dep-ok}
-use Rattle.codec.specs.Views.{shape-ok}
+use Rattle.codec.proofs.Sequences.{dep-ok}
+use Rattle.codec.proofs.Views.{shape-ok}
 use Rattle.model.specs.Modules.{each, task_types, task_starts, port_types, port_starts}
 use Rattle.file.specs.Tables.{Table}
 use Rattle.file.specs.Names.{name}
@@ -39,7 +39,7 @@ record Parts (t : Table) : Type 0 where
 parts-of : (t : Table) → table.ok t ≡ true → Parts t
 unfolding table
 parts-of t h =
-    let (n, s) = dep-ok _ _ _ t.name _ (shape-ok _ _ _ _ _ t h) in
+    let (n, s) = dep-ok _ _ _ t.name _ (shape-ok _ _ _ t h) in
     let (x, a) = dep-ok _ _ _ t.sensors _ s in
     let (y, k) = dep-ok _ _ _ t.actuators _ a in
     let (z, d) = dep-ok _ _ _ t.tasks _ k in

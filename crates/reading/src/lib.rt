@@ -1,6 +1,8 @@
 // The reader of E-code files: the table that some bytes hold, or the number of the refusal.
 // Promises: any bytes are answered as the definition of the file says; beside a refusal stands the blank table.
 // Builds on the readers of the records and on the tests of references.
+#![tactic(auto)]
+
 ghost use Rattle.std.specs.Prelude.{◌≡◌, drop};
 ghost use Rattle.file.specs.Files.{refused as refused_with, judged as judged_of, versioned as versioned_of, decode, table as table_of};
 ghost use Rattle.layout.specs.Plain.{blank as blank_table};

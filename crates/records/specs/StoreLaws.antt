@@ -1,13 +1,15 @@
 -- How rows are filled, and what an instruction that was read is told by.
 use Rattle.std.specs.Prelude.{ℕ, ◌+◌, ◌*◌, ◌≡◌, refl, List, [], ◌∷◌, ◌++◌, ltb, length}
 use Rattle.std.proofs.Common.{add-zero, arith, sym, ap, ◌∙◌, subst, ltb-true}
-use Rattle.codec.specs.Readings.{got, and_then-got, got_same}
+use Rattle.codec.specs.Readings.{got}
+use Rattle.codec.proofs.Readings.{and_then-got, got_same}
 use Rattle.codec.specs.Numbers.{byte, be}
 use Rattle.codec.specs.Sequences.{dep, dep_get}
 use Rattle.codec.specs.Views.{check}
 use Rattle.model.specs.Modules.{each}
 use Rattle.file.specs.Tables.{Argument, port, fixed}
-use Rattle.file.specs.Code.{fits_form, forms_of, word, triple, triple_of, instr_by, triple-named}
+use Rattle.file.specs.Code.{fits_form, forms_of, word, triple, triple_of, instr_by}
+use Rattle.file.proofs.CodeLaws.{triple-named}
 use Rattle.layout.specs.Plain.{argument_cells}
 use Rattle.layout.specs.Filling.{stored, fill, stored-none, stored-both}
 use Rattle.fields.specs.NameLaws.{check-passed}

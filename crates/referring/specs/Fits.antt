@@ -1,10 +1,14 @@
 -- What a table that can stand in a file has: every list within its room, and every part one that can stand there.
 use Rattle.std.specs.Prelude.{ℕ, ◌+◌, ◌≤◌, ◌<◌, ◌≡◌, true, List, [], ◌∷◌, ◌++◌, length, get_or}
 use Rattle.std.proofs.Common.{arith, leb-true}
-use Rattle.codec.specs.Codecs.{Codec, and_left, and_right}
-use Rattle.codec.specs.Sequences.{dep, dep_ok, dep-ok}
-use Rattle.codec.specs.Views.{shape, view_ok, check-ok, shape-ok}
-use Rattle.codec.specs.Lists.{list, list-ok, running-ok}
+use Rattle.codec.specs.Codecs.{Codec}
+use Rattle.codec.proofs.Codecs.{and_left, and_right}
+use Rattle.codec.specs.Sequences.{dep, dep_ok}
+use Rattle.codec.proofs.Sequences.{dep-ok}
+use Rattle.codec.specs.Views.{shape, view_ok}
+use Rattle.codec.proofs.Views.{check-ok, shape-ok}
+use Rattle.codec.specs.Lists.{list}
+use Rattle.codec.proofs.Lists.{list-ok, running-ok}
 use Rattle.model.specs.Modules.{each}
 use Rattle.model.specs.Rooms.{sensor_room, actuator_room, task_room, mode_room, driver_room, guard_room, code_room}
 use Rattle.model.specs.Instructions.{Driver, updates, releases, terminates}
@@ -61,7 +65,7 @@ table_fits t h =
 pub few-sources : (task : ℕ) (sources : List ℕ) → driver.ok (releases task sources) ≡ true → length sources ≤ 8
 unfolding driver driver_rest
 few-sources task sources h =
-    let rest = (dep-ok _ _ _ releasing (task, sources) (shape-ok _ _ _ _ _ (releases task sources) h)).1 in
+    let rest = (dep-ok _ _ _ releasing (task, sources) (shape-ok _ _ _ (releases task sources) h)).1 in
     (listed _ 1 8 sources (dep-ok _ _ _ task sources rest).1).few
 
 pub driver-width : (d : Driver) → driver.ok d ≡ true → length (driver_cells d) ≤ 12
@@ -71,7 +75,7 @@ driver-width (terminates task) h = omega arith
 
 pub guard-arguments : (g : GuardRow) → guard.ok g ≡ true → Listed argument 2 g.arguments
 unfolding guard
-guard-arguments g h = listed _ 1 2 g.arguments (dep-ok _ _ _ g.function g.arguments (shape-ok _ _ _ _ _ g h)).1
+guard-arguments g h = listed _ 1 2 g.arguments (dep-ok _ _ _ g.function g.arguments (shape-ok _ _ _ g h)).1
 
 pub few-arguments : (g : GuardRow) → guard.ok g ≡ true → length g.arguments ≤ 2
 few-arguments g h = (guard-arguments g h).few

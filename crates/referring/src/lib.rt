@@ -1,6 +1,8 @@
 // What the numbers in the rows of a table's arrays refer to: refusal 24 of the reader.
 // Promises: each judgment is its definition, for all arrays; over the arrays of a table together they are the reader's test of references.
 // Builds on the references of file, on the layout of tables and on cells.
+#![tactic(auto)]
+
 ghost use Rattle.std.specs.Prelude.{◌≡◌, [], ◌∷◌};
 ghost use Rattle.file.specs.References.{is_source, is_actuator, function_takes};
 ghost use Rattle.referring.specs.Rows.{gives_in, serves_one_in, serves_in, good_release_in, good_update_in, good_driver_in, good_drivers_in};

@@ -1,5 +1,5 @@
 -- Modes and their activities: the rules 4 and 6 to 12 that they must keep.
-use Rattle.std.specs.Prelude.{ℕ, ◌*◌, ◌+◌, List, [], ◌∷◌, map, Bool, true, false, cond, ◌&&◌, eqb, ltb, length, drop}
+use Rattle.std.specs.Prelude.{ℕ, ◌*◌, ◌+◌, List, [], ◌∷◌, map, Bool, cond, ◌&&◌, eqb, ltb, length, drop}
 use Rattle.text.specs.declared.Name.{Name}
 use Rattle.model.specs.Bytes.{place_in}
 use Rattle.model.specs.Rooms.{period_room, frequency_room, activity_room}

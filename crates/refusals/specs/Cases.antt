@@ -1,7 +1,6 @@
 -- Refusals 4 to 12 by cases: texts as they are written, with the mark # where the refusal stands.
 use Rattle.std.specs.Prelude.{ℕ, List, [], ◌∷◌, Bool, true, false, cond, ◌&&◌, eqb, T}
 use Prim.Native.String.{String}
-use Rattle.std.proofs.Math.Option.{Option, none, some}
 use Rattle.model.specs.Bytes.{bytes}
 use Rattle.text.specs.declared.Item.{Item}
 use Rattle.text.specs.Items.{refused_in}

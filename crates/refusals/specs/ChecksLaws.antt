@@ -1,9 +1,9 @@
 -- Laws of checks: no second answer is leftmost; and how a list of rules answers part by part.
-use Rattle.std.specs.Prelude.{ℕ, ◌≤◌, ◌<◌, ◌≡◌, refl, List, [], ◌∷◌, ◌++◌, Bool, true, false, cond, ◌⊎◌}
-use Rattle.std.proofs.Common.{sym, ap, ◌∙◌, inl, inr, ⊎_elim, arith}
+use Rattle.std.specs.Prelude.{ℕ, ◌≡◌, refl, List, [], ◌∷◌, ◌++◌, Bool, true, false, cond}
+use Rattle.std.proofs.Common.{sym, ap, ◌∙◌, inl, inr, arith}
 use Rattle.refusals.specs.declared.Verdict.{Verdict}
 use Rattle.refusals.specs.declared.Verdict.TheVariants.{Fine, No}
-use Rattle.refusals.specs.Checks.{Check, check, Cause, Precedes, Leftmost, first, is_fine}
+use Rattle.refusals.specs.Checks.{Check, Precedes, Leftmost, first, is_fine}
 
 -- ---- no second answer fits
 

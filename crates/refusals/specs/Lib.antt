@@ -16,6 +16,5 @@ pub mod RoomCases
 pub mod ChecksLaws
 pub mod Order
 pub mod Strict
-pub mod RulesOrder
 pub mod Twice
 pub mod NamesLaws

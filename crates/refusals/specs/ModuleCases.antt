@@ -1,6 +1,6 @@
 -- What a text with everything once means, written out; and what signs mean.
-use Rattle.std.specs.Prelude.{ℕ, ◌≡◌, refl, List, [], ◌∷◌, map, Bool, true, false, T}
-use Rattle.std.proofs.Math.Option.{Option, none, some}
+use Rattle.std.specs.Prelude.{ℕ, ◌≡◌, refl, List, [], ◌∷◌, map, true, false, T}
+use Rattle.std.proofs.Math.Option.{none, some}
 use Rattle.std.specs.Int.{w32}
 use Rattle.std.proofs.Common.{to_z}
 use Rattle.model.specs.Bytes.{bytes}

@@ -1,5 +1,5 @@
 -- Ports and arguments as they are written: what they mean, and the rules 4, 6 and 7 that they must keep.
-use Rattle.std.specs.Prelude.{ℕ, List, [], ◌∷◌, Bool, true, false, cond, ◌&&◌}
+use Rattle.std.specs.Prelude.{ℕ, List, [], ◌∷◌, cond, ◌&&◌}
 use Rattle.text.specs.declared.Name.{Name}
 use Rattle.text.specs.declared.Port.{Port}
 use Rattle.refusals.specs.declared.Row.{Row}

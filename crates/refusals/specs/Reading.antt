@@ -1,5 +1,5 @@
 -- The definitions that a case computes with, each group under one name.
-use Rattle.std.specs.Prelude.{ℕ, List, []}
+use Rattle.std.specs.Prelude.{ℕ, List}
 use Rattle.model.specs.Bytes.{same, place_in}
 use Rattle.model.specs.Modules.{Module}
 use Rattle.text.specs.Spaces.{spaces}

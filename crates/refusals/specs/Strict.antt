@@ -11,8 +11,8 @@ use Rattle.text.specs.declared.Item.{Item}
 use Rattle.text.specs.declared.Item.TheVariants as I
 use Rattle.text.specs.declared.ReadItem.{ReadItem}
 use Rattle.text.specs.Tokens.{stands, code_at}
-use Rattle.text.specs.Expect.{from, want, want_any, closed, read}
-use Rattle.text.specs.ExpectLaws.{want-follows, any-follows, word-follows, either-follows}
+use Rattle.text.specs.Expect.{from, want, closed, read}
+use Rattle.text.proofs.ExpectLaws.{want-follows, any-follows, word-follows, either-follows}
 use Rattle.text.specs.Productions.{past_port, port_at, period, freq, ms, us, module_at, constant_at, sensor_at, actuator_at, task_at, input_at, output_at, task_end_at, mode_of, mode_at, activity_at, guard_at, guard_arg_at, invoke_at, arg_at, update_at, switch_at}
 use Rattle.text.specs.Items.{refused_at, section_of, portion_of, part_of, declaration_at, section_at, module_body_at, task_port_at, portion_at, task_body_at, head_at, part_at, mode_body_at, target_at, act_at, finish_at, item_at}
 

@@ -1,5 +1,5 @@
 -- Types and values as they are written: which type, which word, and the rules 4, 6, 7 and 8 that they must keep.
-use Rattle.std.specs.Prelude.{ℕ, ◌-◌, ◌%◌, ◌^◌, List, [], ◌∷◌, Bool, true, false, cond}
+use Rattle.std.specs.Prelude.{ℕ, ◌-◌, ◌%◌, ◌^◌, List, [], ◌∷◌, Bool, cond}
 use Rattle.text.specs.declared.Name.{Name}
 use Rattle.text.specs.declared.Literal.{Literal}
 use Rattle.text.specs.declared.Literal.TheVariants.{Truth, Number, Named}

@@ -8,8 +8,8 @@ use Rattle.text.specs.declared.State.TheVariants as Q
 use Rattle.text.specs.declared.Item.{Item}
 use Rattle.text.specs.declared.ReadItem.{ReadItem}
 use Rattle.text.specs.Items.{item_at, goes, items_from, items_of}
-use Rattle.text.specs.ItemsLaws.{from_on, from-stop}
-use Rattle.text.specs.Advance.{item-ahead}
+use Rattle.text.proofs.ItemsLaws.{from_on, from-stop}
+use Rattle.text.proofs.Advance.{item-ahead}
 use Rattle.model.specs.Rooms.{activity_room}
 use Rattle.refusals.specs.declared.Row.{Row}
 use Rattle.refusals.specs.declared.Verdict.{Verdict}

@@ -1,6 +1,8 @@
 // Refusals 4 to 12: the judging pass over a text.
 // Promises the leftmost of 4 to 12, for every text whose items are kept, and for a text that breaks none the table of all its names.
 // Builds on the kept items of a text, on the rules of declarations and activities, and on what the pass knows at each item.
+#![tactic(auto)]
+
 ghost use Rattle.std.specs.Prelude.{◌≡◌, ℕ, ◌<◌, List, slice_index};
 ghost use Rattle.text.specs.declared.State.{State};
 ghost use Rattle.text.specs.Items.{item_at};
@@ -15,7 +17,7 @@ mod acting;
 mod declaring;
 
 // A turn of the pass: whether it goes on, what its item breaks, the number of names, and what is known at the next item.
-#[derive(Drop)]
+#[derive(Clone, Copy)]
 pub(crate) struct Turn {
     pub(crate) on: bool,
     pub(crate) verdict: Verdict,
@@ -24,14 +26,14 @@ pub(crate) struct Turn {
 }
 
 // The answer of the pass: what the text breaks, and how many names it declares.
-#[derive(Drop)]
+#[derive(Clone, Copy)]
 struct Outcome {
     verdict: Verdict,
     rows: usize,
 }
 
 // What a text breaks, and how many names it declares where it breaks nothing.
-#[derive(Drop)]
+#[derive(Clone, Copy)]
 pub struct Judged {
     pub verdict: Verdict,
     pub rows: usize,

@@ -4,7 +4,7 @@ use Rattle.std.proofs.Common.{eqb-true}
 use Rattle.std.proofs.lemmas.Bool.{eqb-false}
 use Rattle.text.specs.declared.Skipped.TheVariants.{Open}
 use Rattle.text.specs.Spaces.{spaces_at, block_at}
-use Rattle.text.specs.SpacesLaws as law
+use Rattle.text.proofs.SpacesLaws as law
 use Rattle.scan.specs.declared.spaces.Block.{Block}
 use Rattle.scan.specs.declared.spaces.Block.TheVariants.{Past, Never}
 

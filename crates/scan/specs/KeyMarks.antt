@@ -1,11 +1,11 @@
 -- Keywords by their marks: a word can be at most one keyword, that of its mark.
-use Rattle.std.specs.Prelude.{ℕ, zero, suc, ◌+◌, ◌-◌, ◌*◌, ◌≤◌, ◌<◌, ◌≡◌, refl, List, [], ◌∷◌, Bool, true, false, cond, length, get_or, take, drop, eqb, leb, T}
-use Rattle.std.proofs.Common.{sym, ap, ◌∙◌, add-zero, add-suc, suc-add, arith, length-take, length-drop, get_or-take, get_or-drop}
+use Rattle.std.specs.Prelude.{ℕ, suc, ◌+◌, ◌-◌, ◌*◌, ◌≤◌, ◌<◌, ◌≡◌, refl, List, [], ◌∷◌, Bool, true, false, cond, length, get_or, take, eqb, leb, T}
+use Rattle.std.proofs.Common.{sym, ap, ◌∙◌, add-zero, arith, get_or-take, get_or-drop}
 use Rattle.std.proofs.Math.Seq.{slice}
 use Rattle.std.proofs.Math.Dec.{eqb→eq, leb→le}
 use Rattle.model.specs.Bytes.{same, place_in}
 use Rattle.text.specs.Words.{keywords, keyword}
-use Rattle.text.specs.WordsLaws.{same→eq, same-lengths}
+use Rattle.text.proofs.WordsLaws.{same→eq, same-lengths}
 use Rattle.text.specs.EachEntry.{both, both_left, both_right, each-entry}
 use Rattle.text.specs.KeyTable.{key_numbers}
 use Rattle.scan.specs.Slices.{slice-length}

@@ -6,11 +6,11 @@ use Rattle.std.proofs.lemmas.Bool.{eqb-false}
 use Rattle.text.specs.declared.Token as tokens
 use Rattle.text.specs.declared.Token.TheVariants as Token
 use Rattle.text.specs.Spaces.{white}
-use Rattle.text.specs.SpacesLaws.{spaces-other}
+use Rattle.text.proofs.SpacesLaws.{spaces-other}
 use Rattle.text.specs.Words.{letter, digit, word_byte, munch_at}
 use Rattle.text.specs.Tokens.{word_token, sign_token, lexed, starts_at, token_at}
 use Rattle.text.specs.StartsLaws as starts
-use Rattle.text.specs.TokensLaws.{munch-at-within}
+use Rattle.text.proofs.TokensLaws.{munch-at-within}
 use Rattle.scan.specs.declared.Alone.{Alone}
 use Rattle.scan.specs.declared.Alone.TheVariants.{Sign, Nothing}
 use Rattle.scan.specs.Runs.{small, colon_equals}

@@ -1,16 +1,15 @@
 -- Small letters, the marks of names, and where a text's last byte ends every word.
-use Rattle.std.specs.Prelude.{ℕ, zero, suc, ◌+◌, ◌-◌, ◌≤◌, ◌<◌, ◌≡◌, refl, List, [], ◌∷◌, Bool, true, false, cond, length, get_or, take, drop, eqb, leb, ltb, T}
+use Rattle.std.specs.Prelude.{ℕ, zero, suc, ◌+◌, ◌-◌, ◌≤◌, ◌<◌, ◌≡◌, refl, List, [], ◌∷◌, Bool, true, false, cond, length, get_or, take, eqb, leb, ltb, T}
 use Rattle.std.proofs.Common.{sym, subst, ap, ◌∙◌, arith, ne_eqb, ltb-true, ltb-false, leb-true, get_or-take, get_or-drop}
 use Rattle.std.proofs.lemmas.Bool.{lt-leb}
 use Rattle.std.proofs.Math.Seq.{slice}
-use Rattle.model.specs.Bytes.{same, place_in}
+use Rattle.model.specs.Bytes.{same}
 use Rattle.text.specs.declared.Token.TheVariants as Token
-use Rattle.text.specs.Words.{within, letter, digit, word_byte, munch_at, keywords, keyword}
-use Rattle.text.specs.Tokens.{key_tokens, word_token}
+use Rattle.text.specs.Words.{within, letter, digit, word_byte, keywords, keyword}
+use Rattle.text.specs.Tokens.{word_token}
 use Rattle.text.specs.KeyTable.{key_numbers, key-none}
-use Rattle.text.specs.WordsLaws as words
-use Rattle.text.specs.EachEntry.{both, both_left, both_right, each-entry, every}
-use Rattle.scan.specs.Runs.{takes, small, mark, Closed}
+use Rattle.text.specs.EachEntry.{both, both_left, both_right, each-entry}
+use Rattle.scan.specs.Runs.{takes, small, mark}
 use Rattle.scan.specs.KeyMarks.{no-keyword, is-keyword}
 use Rattle.scan.specs.Slices.{slice-length}
 

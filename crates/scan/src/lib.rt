@@ -1,6 +1,8 @@
 // The tokens of a text: white space and comments, names, keywords, numbers and signs.
 // Promises that each function answers what the definitions of text say, at every place, also behind the end.
 // Builds on text and model.
+#![tactic(auto)]
+
 ghost use Rattle.std.specs.Prelude.{◌≡◌, ◌<◌, true, length, get_or};
 ghost use Rattle.text.specs.Tokens.{code_of, lexed, starts_at, token_at, code_at, stands as stands_at};
 ghost use Rattle.scan.specs.Runs.{colon_equals, small};
@@ -15,7 +17,7 @@ mod words;
 pub use words::{same, value};
 
 // The token that a byte alone is, or none.
-#[derive(Drop)]
+#[derive(Clone, Copy)]
 enum Alone {
     Sign(Token),
     Nothing,

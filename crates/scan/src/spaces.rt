@@ -7,14 +7,14 @@ ghost use Rattle.scan.specs.Places.{Reached};
 use text::Skipped;
 
 // The place behind a block comment's `*/`, or none.
-#[derive(Drop)]
+#[derive(Clone, Copy)]
 pub enum Block {
     Past(usize),
     Never,
 }
 
 // Where white space and comments end: at a byte, at the end of the text, or at the start of a comment that is not closed.
-#[derive(Drop)]
+#[derive(Clone, Copy)]
 pub enum Place {
     Byte(usize, u8),
     End(usize),

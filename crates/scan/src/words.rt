@@ -6,7 +6,7 @@ ghost use Rattle.text.specs.Words.{within, letter, digit, word_byte, munch_at, v
 ghost use Rattle.scan.specs.Runs.{takes, small, mark, Closed, SmallEnds, RunEnds};
 
 // The place behind a word: one that is a name, or one that may be a keyword.
-#[derive(Drop)]
+#[derive(Clone, Copy)]
 pub enum Run {
     Name(usize),
     Word(usize),

@@ -4,12 +4,7 @@ pub mod Raising
 pub mod Pieces
 pub mod GuardLaws
 pub mod KeptActs
-pub mod KeptCalls
-pub mod KeptUpdates
-pub mod KeptSwitches
 pub mod KeptSame
-pub mod KeptModes
-pub mod KeptSources
 pub mod Kept
 pub mod Whole
 pub mod Walk

@@ -1,10 +1,12 @@
 // What is kept from item to item while the arrays of modes, guards, activities and drivers are filled: the data that code and definitions share.
 // Promises, by its laws: where the arrays hold what was read so far, they hold it with each item that comes (specs/Kept).
 // Builds on the layout of the table and on what an accepted text means.
+#![tactic(auto)]
+
 use text::Name;
 
 // How many rows are filled: terminations, drivers and activities of what is finished, guards, modes.
-#[derive(Drop)]
+#[derive(Clone, Copy)]
 pub struct Filled {
     pub tasks: u32,
     pub drivers: u32,
@@ -14,7 +16,7 @@ pub struct Filled {
 }
 
 // The mode under way: where its name stands, 1 for a start mode, its period, its activities so far, and the sources of the task invoked last.
-#[derive(Drop)]
+#[derive(Clone, Copy)]
 pub struct Opened {
     pub name: Name,
     pub start: u32,
@@ -26,7 +28,7 @@ pub struct Opened {
 }
 
 // The activity under way: its frequency, its guard's function (0 none, else its number and 1), the number of operands, and the first two as the table has them.
-#[derive(Drop)]
+#[derive(Clone, Copy)]
 pub struct Acting {
     pub frequency: u32,
     pub function: u32,
@@ -38,7 +40,7 @@ pub struct Acting {
 }
 
 // What is kept from item to item.
-#[derive(Drop)]
+#[derive(Clone, Copy)]
 pub struct Plan {
     pub filled: Filled,
     pub opened: Opened,

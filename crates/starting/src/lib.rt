@@ -1,6 +1,8 @@
 // A machine started on a table: the verdict on the table, joined to the start by it.
 // Promises: the start is its definition on the sound table that the arrays hold; 30 and no machine where they hold none.
 // Builds on the verdict of ecode, on emachine and on the board that both read (boards).
+#![tactic(auto)]
+
 ghost use Rattle.std.specs.Prelude.{◌≡◌};
 ghost use Rattle.machine.specs.Answers.{reaction_means};
 ghost use Rattle.ecode.specs.Sound.{sound_in};

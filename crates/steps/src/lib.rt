@@ -1,6 +1,8 @@
 // What one instruction of the machine does, over rows of numbers lent from a table: the row itself, drivers, begins of modes.
 // Promises: each function is the definition's, for every row and every state; a driver that faults changes nothing.
 // Builds on the instructions and the store of machine, on bits and cells.
+#![tactic(auto)]
+
 ghost use Rattle.std.specs.Prelude.{◌≡◌, List, [], ℕ, ◌+◌, ◌*◌, get_or};
 ghost use Rattle.model.specs.Modules.{place as placed, copy_to};
 ghost use Rattle.machine.specs.Words.{has as has_of};
@@ -9,7 +11,7 @@ ghost use Rattle.steps.specs.Rows.{row_of, driver_in, begins_by, reactive, task_
 ghost use Rattle.steps.specs.Steps.{Core, settled, store_of, worded, drives, told_of, tells};
 
 // An instruction: its opcode and arguments.
-#[derive(Drop)]
+#[derive(Clone, Copy)]
 pub struct Row {
     pub opcode: u32,
     pub first: u32,
@@ -17,7 +19,7 @@ pub struct Row {
 }
 
 // A reaction that returned: the mode, where the next one begins and how long until then, the words of tasks.
-#[derive(Drop)]
+#[derive(Clone, Copy)]
 pub struct Halted {
     pub mode: u32,
     pub next: u32,
@@ -28,7 +30,7 @@ pub struct Halted {
 }
 
 // How a reaction ends: it returned; fault 40 with the late task; another fault.
-#[derive(Drop)]
+#[derive(Clone, Copy)]
 pub enum Ending {
     Returned(Halted),
     Late(u32),
@@ -36,7 +38,7 @@ pub enum Ending {
 }
 
 // What a driver did to the words of tasks: nothing; the task is out no more; it is late, and nothing is done.
-#[derive(Drop)]
+#[derive(Clone, Copy)]
 pub enum Driven {
     Done,
     Over(u32),

@@ -1,9 +1,10 @@
 // The table of a module as one record of plain arrays, as the reader returns it and the machine reads it.
 // Promises: what is not used holds its beginning value, zero, in every table that the reader returns (crate ecode).
 // Builds on nothing.
+#![tactic(auto)]
 
 // Counts say how many rows of each array are used. Numbers in rows are 32 bits wide throughout.
-#[derive(Drop)]
+#[derive(Clone, Copy)]
 pub struct Table {
     pub sensors: u32,
     pub actuators: u32,

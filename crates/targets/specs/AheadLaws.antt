@@ -11,9 +11,9 @@ use Rattle.text.specs.declared.Item.{Item}
 use Rattle.text.specs.declared.Item.TheVariants as I
 use Rattle.text.specs.declared.ReadItem.{ReadItem}
 use Rattle.text.specs.Items.{item_at, goes, onto, items_in, items_from, refused_or}
-use Rattle.text.specs.ItemsLaws.{from_on, from-stop, turn-ahead}
-use Rattle.text.specs.Advance.{item-ahead}
-use Rattle.text.specs.PartsLaws.{unsaid}
+use Rattle.text.proofs.ItemsLaws.{from_on, from-stop, turn-ahead}
+use Rattle.text.proofs.Advance.{item-ahead}
+use Rattle.text.proofs.PartsLaws.{unsaid}
 use Rattle.model.specs.Bytes.{same}
 use Rattle.refusals.specs.declared.Row.{Row}
 use Rattle.refusals.specs.Names.{letters, named, module_scope, mode_sort, no_type, unknown, is_known, is_unknown, find, row_of}

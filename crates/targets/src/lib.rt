@@ -1,6 +1,8 @@
 // The target of a switch: whether its name means a mode, which may be declared further on.
 // Promises that the answer is that of the names declared so far, or else of the first mode of that name in the items to come, for every text whose items are kept, every table whose index is right for it, and every place.
 // Builds on the kept items of a text, on the table of names, and on what the rules say of a name.
+#![tactic(auto)]
+
 ghost use Rattle.std.specs.Prelude.{◌≡◌, ℕ, List, slice_index};
 ghost use Rattle.text.specs.Items.{items_from};
 ghost use Rattle.refusals.specs.Names.{letters};

@@ -17,7 +17,8 @@ use Rattle.rules.specs.Going.{all_names, tabled_by, Judges}
 use Rattle.refusals.specs.declared.Verdict.{Verdict}
 use Rattle.timing.specs.Code.{code_of}
 use Rattle.prescribed.specs.declared.Compiled.{Compiled}
-use Rattle.prescribed.specs.Acceptance.{Readable, free}
+use Rattle.prescribed.specs.Acceptance.{Readable}
+use Rattle.prescribed.proofs.Acceptance.{free}
 use Rattle.prescribed.specs.Compiles.{Compiling, refused, file_of, in_room, compile_of}
 use Rattle.prescribed.specs.Answers.{answered, buffered}
 use Rattle.tdl.specs.Numbers.{numbers_in, numbers_of, numbered}

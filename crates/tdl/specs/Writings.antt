@@ -19,7 +19,7 @@ use Rattle.layout.specs.Rows.{zeros}
 use Rattle.layout.specs.Plain.{struct_of}
 use Rattle.filing.specs.Whole.{roles_aside, file-aside}
 use Rattle.ecode.specs.Sound.{bytes_of, Holds, holds-file}
-use Rattle.prescribed.specs.Acceptance.{free}
+use Rattle.prescribed.proofs.Acceptance.{free}
 use Rattle.prescribed.specs.Tables.{table_of}
 use Rattle.prescribed.specs.declared.Compiled.{Compiled}
 use Rattle.prescribed.specs.declared.Compiled.TheVariants.{Written, Refused}

@@ -1,6 +1,8 @@
 // The compiler: the text of a module to its E-code file (document 01, 'When the compiler says no').
 // Promises: for any bytes and any buffer, the one file or the one refusal with its place, as the definition `compile_of` says; what is refused leaves the buffer as it was.
 // Builds on the passes over a text (kept, rules, build), on its code (coding) and on its file (ecode).
+#![tactic(auto)]
+
 ghost use Rattle.std.specs.Prelude.{◌≡◌, length};
 ghost use Rattle.prescribed.specs.Acceptance.{Readable};
 ghost use Rattle.prescribed.specs.Compiles.{compile_of};

@@ -1,5 +1,5 @@
 -- The parts of an item stand in text order: from `lo` on, one behind the other, up to `hi`.
-use Rattle.std.specs.Prelude.{ℕ, ◌≤◌, ◌<◌, ◌≡◌, Bool, true, false}
+use Rattle.std.specs.Prelude.{ℕ, ◌≤◌, ◌<◌, ◌≡◌, true}
 use Rattle.text.specs.declared.Name.{Name}
 use Rattle.text.specs.declared.Port.{Port}
 use Rattle.text.specs.declared.Literal.{Literal}

@@ -1,7 +1,5 @@
 pub mod Spaces
-pub mod SpacesLaws
 pub mod Words
-pub mod WordsLaws
 pub mod Tokens
 pub mod EachEntry
 pub mod KeyTable
@@ -11,12 +9,10 @@ pub mod Expect
 pub mod WantLaws
 pub mod ExpectLaws
 pub mod Productions
-pub mod CountLaws
 pub mod Items
 pub mod Laid
 pub mod PartsLaws
 pub mod ProductionsLaws
-pub mod Advance
 pub mod ItemsLaws
 pub mod Cases
 pub mod ItemCases

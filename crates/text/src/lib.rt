@@ -1,16 +1,17 @@
 // The text of a module as data: tokens, and the flat list of items that the grammar makes of them.
 // Promises nothing of itself: its definitions (specs/) say which token stands at a place, and how items and refusals 2 and 3 are read; crate grammar says which they are.
 // Builds on model.
+#![tactic(auto)]
 
 // White space and comments end at a place; or a block comment that starts there is not closed.
-#[derive(Drop)]
+#[derive(Clone, Copy)]
 pub enum Skipped {
     Stop(usize),
     Open(usize),
 }
 
 // A token: a name, a number, a sign, a keyword, the end of the text, or bytes that start no token.
-#[derive(Drop)]
+#[derive(Clone, Copy)]
 pub enum Token {
     Name,
     Number,
@@ -53,7 +54,7 @@ pub enum Token {
 }
 
 // A token, and where it starts and ends.
-#[derive(Drop)]
+#[derive(Clone, Copy)]
 pub struct Lexed {
     pub token: Token,
     pub start: usize,
@@ -61,7 +62,7 @@ pub struct Lexed {
 }
 
 // What was read last: where it starts and ends; or the number of a refusal, and its place.
-#[derive(Drop)]
+#[derive(Clone, Copy)]
 pub struct Got {
     pub bad: u8,
     pub start: usize,
@@ -69,14 +70,14 @@ pub struct Got {
 }
 
 // A name, or the digits of a number: the bytes from start up to end.
-#[derive(Drop)]
+#[derive(Clone, Copy)]
 pub struct Name {
     pub start: usize,
     pub end: usize,
 }
 
 // A port as it is written: a name, or name "." name.
-#[derive(Drop)]
+#[derive(Clone, Copy)]
 pub struct Port {
     pub first: Name,
     pub second: Name,
@@ -84,7 +85,7 @@ pub struct Port {
 }
 
 // A value as it is written. `at` is where it starts, a minus included.
-#[derive(Drop)]
+#[derive(Clone, Copy)]
 pub enum Literal {
     Truth {
         at: usize,
@@ -98,7 +99,7 @@ pub enum Literal {
     Named(Name),
 }
 
-#[derive(Drop)]
+#[derive(Clone, Copy)]
 pub struct ReadLiteral {
     pub bad: u8,
     pub start: usize,
@@ -106,7 +107,7 @@ pub struct ReadLiteral {
     pub literal: Literal,
 }
 
-#[derive(Drop)]
+#[derive(Clone, Copy)]
 pub struct ReadPort {
     pub bad: u8,
     pub start: usize,
@@ -115,7 +116,7 @@ pub struct ReadPort {
 }
 
 // Where in the grammar an item begins. The numbers count the sections of a body, from 1 before the first.
-#[derive(Drop)]
+#[derive(Clone, Copy)]
 pub enum State {
     Begin,
     Module(u8),
@@ -129,7 +130,7 @@ pub enum State {
 }
 
 // An item of the text, with the places that refusals name. An activity's kind is its section's: 2 task, 3 actuator, 4 mode.
-#[derive(Drop)]
+#[derive(Clone, Copy)]
 pub enum Item {
     Module(Name),
     Section,
@@ -196,7 +197,7 @@ pub enum Item {
 }
 
 // An item, the state behind it and the place behind it.
-#[derive(Drop)]
+#[derive(Clone, Copy)]
 pub struct ReadItem {
     pub item: Item,
     pub state: State,

@@ -1,18 +1,17 @@
 -- What a module has that no rule refuses: slots that fit, no task twice, no switch amid a task, and references and rooms that hold.
-use Rattle.std.specs.Prelude.{ℕ, ◌+◌, ◌≤◌, ◌<◌, ◌≡◌, ◌≢◌, Bool, true, false, List, [], ◌∷◌, length, get_or}
-use Rattle.std.proofs.Math.Option.{Option, none, some}
+use Rattle.std.specs.Prelude.{ℕ, ◌+◌, ◌≤◌, ◌<◌, ◌≡◌, ◌≢◌, true, false, List, [], ◌∷◌, length, get_or}
+use Rattle.std.proofs.Math.Option.{some}
 use Rattle.std.specs.Int.{w32}
 use Rattle.std.proofs.Common.{SFits}
-use Rattle.model.specs.declared.Value.{Value}
 use Rattle.model.specs.declared.Value.TheVariants.{Int, Flag}
 use Rattle.model.specs.declared.Operand.{Operand}
 use Rattle.model.specs.declared.Operand.TheVariants.{Port, Fixed}
 use Rattle.model.specs.declared.Function.{Function}
 use Rattle.model.specs.declared.Function.TheVariants.{IsTrue, IsFalse, Less, Equal}
 use Rattle.model.specs.declared.Guard.{Guard}
-use Rattle.model.specs.Rooms.{sensor_room, actuator_room, task_room, mode_room, port_room, all_port_room, driver_room, guard_room, period_room}
+use Rattle.model.specs.Rooms.{sensor_room, actuator_room, task_room, mode_room, port_room, all_port_room, guard_room, period_room}
 use Rattle.model.specs.Values.{no_operand}
-use Rattle.model.specs.Modules.{Module, Mode, Task, no_task, Act, Call, Update, port_types}
+use Rattle.model.specs.Modules.{Module, Mode, no_task, Act, Call, Update, port_types}
 use Rattle.timing.specs.Slots.{ends_at, amid_at}
 use Rattle.timing.specs.SlotLaws.{Each}
 use Rattle.timing.specs.Rules.{no_mode}

@@ -1,8 +1,8 @@
 -- The timing rules call by call: start, tick, next task and finish (document 01, 'What time does' and 'The machine'), over the module alone.
-use Rattle.std.specs.Prelude.{ℕ, zero, suc, ◌+◌, ◌-◌, Bool, true, false, cond, List, [], ◌∷◌, map, length, get_or, set}
+use Rattle.std.specs.Prelude.{ℕ, suc, ◌+◌, ◌-◌, cond, List, [], ◌∷◌, map, get_or, set}
 use Rattle.std.proofs.Math.Option.{Option, none, some}
 use Rattle.model.specs.Clock.{elapsed, Instant, early, due, missed, judged, fits}
-use Rattle.model.specs.Modules.{Module, Mode, Task, no_task, port_starts}
+use Rattle.model.specs.Modules.{Module, Mode, no_task, port_starts}
 pub use Rattle.machine.specs.Asks.{Ask, tick, next, finish}
 use Rattle.timing.specs.Rules.{Standing, idle, ready, running, done, Store, Outcome, well, late, Place, mode_at, next_instant, sensed, entered, instant}
 

@@ -1,16 +1,16 @@
 -- Modules written out, and what the rules and the code make of them: computed.
-use Rattle.std.specs.Prelude.{ℕ, zero, suc, ◌≡◌, refl, true, false, ◌&&◌, List, [], ◌∷◌, T, eqb}
-use Rattle.std.proofs.Math.Option.{Option, none, some}
+use Rattle.std.specs.Prelude.{◌≡◌, refl, true, false, ◌&&◌, List, [], ◌∷◌, T, eqb}
+use Rattle.std.proofs.Math.Option.{none, some}
 use Rattle.model.specs.Bytes.{bytes, same}
 use Rattle.model.specs.declared.Operand.TheVariants.{Port}
 use Rattle.model.specs.declared.Function.TheVariants.{IsTrue}
 use Rattle.model.specs.Values.{int, boolean, holds}
-use Rattle.model.specs.Modules.{Module, Mode, Act, Call, Update, port_starts}
+use Rattle.model.specs.Modules.{Module, Mode, port_starts}
 use Rattle.model.specs.Clock.{fits}
-use Rattle.model.specs.Instructions.{Instr, nop, future, call, release, iff, jump, return, switch, Driver, updates, releases, terminates}
+use Rattle.model.specs.Instructions.{nop, future, call, release, iff, jump, return, switch, updates, releases, terminates}
 use Rattle.timing.specs.Slots.{spans}
-use Rattle.timing.specs.Rules.{Store, Standing, idle, ready, running, done, no_mode, next_instant, entered, instant}
-use Rattle.timing.specs.Calls.{Ask, tick, next, finish, Reply, waits, reacted, refused, fell, given, taken, View, start_from, ask, started, replies, comes, remains}
+use Rattle.timing.specs.Rules.{no_mode, next_instant, entered, instant}
+use Rattle.timing.specs.Calls.{Ask, tick, next, finish, waits, reacted, refused, fell, given, taken, start_from, ask, started, replies, comes}
 use Rattle.timing.specs.Code.{drivers_of, code_of, begins_of, instants_of, instants_from, front, back, later_blocks, mode_code, code_from, begins_from}
 
 -- bench case 5: period 10ms, task 2, update 5

@@ -1,5 +1,5 @@
 -- The code that a module prescribes (document 01, 'The code').
-use Rattle.std.specs.Prelude.{ℕ, zero, suc, ◌+◌, ◌-◌, Bool, true, false, cond, List, [], ◌∷◌, ◌++◌, map, length, ltb}
+use Rattle.std.specs.Prelude.{ℕ, zero, suc, ◌+◌, ◌-◌, true, false, List, [], ◌∷◌, ◌++◌, map, length, ltb}
 use Rattle.std.proofs.Math.Option.{Option, none, some}
 use Rattle.model.specs.Modules.{Module, Mode, Task, Act, Call, Update, each}
 use Rattle.model.specs.Instructions.{Instr, nop, future, call, release, iff, jump, return, switch, Driver, updates, releases, terminates}

@@ -9,9 +9,7 @@ use Rattle.timing.specs.Calls.{Ask, tick, next, finish, Reply, waits, reacted, r
 use Rattle.timing.specs.Code.{begins_of}
 use Rattle.machine.specs.declared.Reaction.{Reaction}
 use Rattle.machine.specs.declared.Reaction.TheVariants.{Obeyed, Idle, Refused, Late, Fault}
-use Rattle.machine.specs.declared.Turn.{Turn}
 use Rattle.machine.specs.declared.Turn.TheVariants as T
-use Rattle.machine.specs.declared.Finishing.{Finishing}
 use Rattle.machine.specs.declared.Finishing.TheVariants as F
 pub use Rattle.machine.specs.Asks.{Answer, ticking, turning, finishing}
 use Rattle.machine.specs.Instructions as E

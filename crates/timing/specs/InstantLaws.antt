@@ -1,7 +1,7 @@
 -- The laws of a mode's instants.
-use Rattle.std.specs.Prelude.{ℕ, zero, suc, ◌+◌, ◌-◌, ◌≤◌, ◌<◌, ◌≡◌, refl, Bool, true, false, cond, List, [], ◌∷◌, ltb}
-use Rattle.std.proofs.Common.{arith, sym, ◌∙◌, ltb-true, ltb-false}
-use Rattle.model.specs.Modules.{Act, Call, Mode}
+use Rattle.std.specs.Prelude.{ℕ, zero, suc, ◌≤◌, ◌<◌, ◌≡◌, refl, Bool, true, false, List, [], ◌∷◌, ltb}
+use Rattle.std.proofs.Common.{arith, ◌∙◌, ltb-true, ltb-false}
+use Rattle.model.specs.Modules.{Mode}
 use Rattle.timing.specs.Slots.{soonest}
 use Rattle.timing.specs.SlotLaws.{Each, AllFit, Midst, Lasts, soonest-le, soonest-after, soonest-same, midst, lasting}
 use Rattle.timing.specs.Rules.{next_instant}

@@ -5,7 +5,6 @@ use Rattle.std.proofs.Math.Decide.{ℕ_discrete}
 use Rattle.std.proofs.Math.Path.{refl}
 use Rattle.std.proofs.Math.Option.{Option, none, some}
 use mathlib.Core.List.{List, [], ◌∷◌, ◌++◌}
-use Rattle.model.specs.Clock.{due}
 use Rattle.model.specs.Modules.{Module, Act, Call, place}
 use Rattle.timing.specs.Slots.{closing}
 use Rattle.timing.specs.SlotLaws.{Each}

@@ -17,7 +17,6 @@ pub mod Causes
 pub mod Orders
 pub mod Twins
 pub mod Ideals
-pub mod OrderFree
 pub mod Released
 pub mod PortLaws
 pub mod Changes
@@ -35,5 +34,4 @@ pub mod Reacts
 pub mod Docks
 pub mod Histories
 pub mod Counts
-pub mod HistoryCases
 pub mod Cases

@@ -6,7 +6,7 @@ use mathlib.Core.List.{List, [], ◌∷◌, ◌++◌, append_assoc, map}
 use Rattle.std.proofs.Math.ListN.{length, get_or-append}
 use Rattle.std.proofs.Math.Seq.{drop-append_seam}
 use Rattle.model.specs.Modules.{Module, Mode, Task, Act, each}
-use Rattle.model.specs.Instructions.{Instr, Driver, updates, terminates, no_driver}
+use Rattle.model.specs.Instructions.{Instr, Driver, terminates, no_driver}
 use Rattle.timing.specs.Slots.{keep, closing, opening, ends_at, begins_at, spans}
 use Rattle.timing.specs.SlotLaws.{Each}
 pub use Rattle.timing.specs.SlotLaws.{each_keep}

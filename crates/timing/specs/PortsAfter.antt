@@ -7,8 +7,8 @@ use Rattle.model.specs.Clock.{fits}
 use Rattle.model.specs.Modules.{Module, Mode, Act, Call, Update}
 use Rattle.timing.specs.Slots.{closing, ends_at, begins_at}
 use Rattle.timing.specs.SlotLaws.{Each, each_keep, and-true}
-use Rattle.timing.specs.Rules.{idle, Store, Place, no_mode, mode_at, inputs_of, outputs_of, sensed, updates}
-use Rattle.timing.specs.Accepted.{Accepted, CallFits, ports}
+use Rattle.timing.specs.Rules.{idle, Store, Place, no_mode, mode_at, inputs_of, outputs_of, sensed}
+use Rattle.timing.specs.Accepted.{Accepted, CallFits}
 use Rattle.timing.specs.Orders.{among}
 use Rattle.timing.specs.Released.{beginning_there, updated_at, Came}
 use Rattle.timing.specs.PortLaws.{place-above, place_inside, input_count, output_count, SensorPort, ActuatorPort, InputPort, task-ports-low, task-ports-within, apart}

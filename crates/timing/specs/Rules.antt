@@ -1,5 +1,5 @@
 -- The timing rules at one instant (document 01, 'What time does'), over the module alone.
-use Rattle.std.specs.Prelude.{ℕ, zero, suc, ◌+◌, Bool, true, false, cond, List, [], ◌∷◌, ◌++◌, length, get_or, set, eqb}
+use Rattle.std.specs.Prelude.{ℕ, ◌+◌, Bool, true, false, cond, List, [], ◌∷◌, length, get_or, set, eqb}
 use Rattle.std.proofs.Math.Option.{Option, none, some}
 use Rattle.model.specs.Values.{holds, no_guard}
 use Rattle.model.specs.Modules.{Module, Mode, Act, Call, Update, inputs_at, outputs_at, place, copy_to}

@@ -1,5 +1,5 @@
 -- Slots (document 01, 'What time does'): an activity of frequency f has f slots of period/f. When slots begin and end is said here and nowhere else.
-use Rattle.std.specs.Prelude.{ℕ, zero, suc, ◌+◌, ◌*◌, ◌/◌, min, Bool, true, false, cond, ◌||◌, ◌&&◌, List, [], ◌∷◌, eqb, leb, ltb}
+use Rattle.std.specs.Prelude.{ℕ, zero, suc, ◌+◌, ◌*◌, ◌/◌, min, Bool, false, cond, ◌||◌, ◌&&◌, List, [], ◌∷◌, eqb, leb, ltb}
 use Rattle.model.specs.Modules.{Act}
 
 -- A stretch of a mode's period.

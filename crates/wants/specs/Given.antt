@@ -10,7 +10,7 @@ use Rattle.text.specs.declared.Got.{Got}
 use Rattle.text.specs.Tokens.{token_at, code_of, is, lexed, behind}
 use Rattle.text.specs.Expect.{got, allow, want, want_any, spells, want_word}
 use Rattle.text.specs.Spaces.{white}
-use Rattle.text.specs.SpacesLaws.{spaces-white}
+use Rattle.text.proofs.SpacesLaws.{spaces-white}
 use Rattle.scan.specs.Others.{Standing, at_once}
 
 -- the token found, which must be t

@@ -1,6 +1,8 @@
 // Expectations: the next token of a reading, which must be a given one, and the same of a token that has been found already.
 // Promises that each function answers what text's `want` says: the token's place, an earlier refusal, or refusal 2 or 3.
 // Builds on scan, text and model.
+#![tactic(auto)]
+
 ghost use Rattle.std.specs.Prelude.{◌≡◌, true, false};
 ghost use Rattle.text.specs.declared.Token.{Token};
 ghost use Rattle.text.specs.Tokens.{is};

@@ -1,0 +1,9 @@
+pub mod Kept
+pub mod Docked
+pub mod Faithful
+pub mod Beside
+pub mod Promises
+pub mod PortsKept
+pub mod ReleasesKept
+pub mod CountKept
+pub mod OrderKept

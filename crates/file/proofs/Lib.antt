@@ -1,0 +1,10 @@
+pub mod Parts
+pub mod Names
+pub mod Records
+pub mod CodeLaws
+pub mod Files
+pub mod Bounds
+pub mod RoundTrips
+pub mod Returned
+pub mod Tagged
+pub mod Numbers

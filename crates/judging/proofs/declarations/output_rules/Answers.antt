@@ -1,0 +1,13 @@
+use mathlib.Core.Path.{ap}
+use Rattle.refusals.specs.Checks.{is_fine}
+use Rattle.refusals.specs.ChecksLaws.{part-ends, part-goes}
+use Rattle.judging.proofs.declarations.output_rules.Goals as goal
+
+pub returns-in_default : goal.returns-in_default
+returns-in_default c ix = part-ends _ _ c.type_rules-known.ensures (ap is_fine c.in_default.is)
+
+pub returns-in_default-fresh : goal.returns-in_default-fresh
+returns-in_default-fresh c ix = part-goes _ _ c.type_rules-known.ensures c.in-Fine.is (part-ends _ _ (c.new_port_rules-fresh.ensures ix) (ap is_fine c.in_default-fresh.is))
+
+pub returns : goal.returns
+returns c ix = part-goes _ _ c.type_rules-known.ensures c.in-Fine.is (part-goes _ _ (c.new_port_rules-fresh.ensures ix) c.in-Fine-fresh.is (c.start_rules.ensures ix))

@@ -1,0 +1,5 @@
+use Rattle.lines.specs.SayingsLaws as law
+use Rattle.lines.proofs.saying.decimal.Goals as goal
+
+pub returns : goal.returns
+returns c = rw (← law.digits-part c.counted-said.ensures) c.text.ensures

@@ -1,0 +1,32 @@
+use mathlib.Core.Path.{sym, ◌∙◌}
+use Rattle.wants.specs.Given.{want-of}
+use Rattle.productions.specs.Behind.{guard_behind}
+use Rattle.productions.proofs.activities.guard.Goals as goal
+
+pub returns-then-stands : goal.returns-then-stands
+unfolding guard_behind
+returns-then-stands c =
+    let next = c.next-name in
+    let next2 = c.next-paren in
+    let token = c.token-found in
+    let stands = c.stands in
+    let if1 = c.if-stands in
+    let given = c.given-closing in
+    let next3 = c.next-last in
+    let name_of = c.name_of in
+    simp (← next.ensures, ← next2.ensures, ← token.ensures, ← given.ensures ∙ want-of _ _ _ token.ensures _, ← next3.ensures, ← name_of.ensures, ← c.close.ensures, sym stands.ensures ∙ if1.true)
+
+pub count-count-requires : goal.count-count-requires
+count-count-requires c = c.token-found.ensures
+
+pub returns : goal.returns
+unfolding guard_behind
+returns c =
+    let next = c.next-name in
+    let next2 = c.next-paren in
+    let token = c.token-found in
+    let stands = c.stands in
+    let if1 = c.if-stands in
+    let count = c.count-count in
+    let name-of2 = c.name_of-2 in
+    simp (← next.ensures, ← next2.ensures, ← token.ensures, ← count.ensures, ← name-of2.ensures, ← c.close-2.ensures, sym stands.ensures ∙ if1.false)

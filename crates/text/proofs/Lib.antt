@@ -1,0 +1,9 @@
+pub mod SpacesLaws
+pub mod WordsLaws
+pub mod TokensLaws
+pub mod ExpectLaws
+pub mod CountLaws
+pub mod PartsLaws
+pub mod ProductionsLaws
+pub mod Advance
+pub mod ItemsLaws

@@ -1,0 +1,10 @@
+pub mod Causes
+pub mod OrderFree
+pub mod NothingEarly
+pub mod Blocks
+pub mod Held
+pub mod Syncs
+pub mod Reacts
+pub mod Histories
+pub mod Counts
+pub mod HistoryCases

@@ -1,0 +1,13 @@
+use mathlib.Core.Path.{◌∙◌}
+use Rattle.text.specs.declared.Token.TheVariants as T
+use Rattle.wants.specs.Given.{taken, refused}
+use Rattle.wants.proofs.Others.{other-token}
+use Rattle.wants.proofs.keys.key_then.Goals as goal
+
+pub returns-in_default : goal.returns-in_default
+returns-in_default c =
+    let args = c.args in
+    c.refuse.ensures ∙ refused T.KeyThen _ _ (other-token T.KeyThen args.found c.in_default.not-KeyThen)
+
+pub returns : goal.returns
+returns c = c.took.ensures ∙ taken T.KeyThen _ _ c.in-KeyThen.is

@@ -1,0 +1,13 @@
+use mathlib.Core.Path.{◌∙◌}
+use Rattle.text.specs.declared.Token.TheVariants as T
+use Rattle.wants.specs.Given.{taken, refused}
+use Rattle.wants.proofs.Others.{other-token}
+use Rattle.wants.proofs.signs.right_bracket.Goals as goal
+
+pub returns-in_default : goal.returns-in_default
+returns-in_default c =
+    let args = c.args in
+    c.refuse.ensures ∙ refused T.RightBracket _ _ (other-token T.RightBracket args.found c.in_default.not-RightBracket)
+
+pub returns : goal.returns
+returns c = c.took.ensures ∙ taken T.RightBracket _ _ c.in-RightBracket.is
