@@ -8,7 +8,7 @@ use Rattle.timing.specs.SlotLaws.{Fits, each-zip}
 use Rattle.timing.specs.SlotFits.{divided-fits}
 use Rattle.timing.specs.Rules.{no_mode}
 use Rattle.timing.specs.Accepted.{CallFits, ModeFits, Accepted}
-use Rattle.refusals.specs.declared.Verdict.TheVariants.{Fine}
+use Rattle.refusals.specs.Verdicts.{Fine}
 use Rattle.refusals.specs.Names.{sensor_sort, actuator_sort, task_sort, mode_sort, input_sort, output_sort}
 use Rattle.refusals.specs.Texts.{verdict_of, module_of}
 use Rattle.accepted.specs.Folds.{all_rows}

@@ -16,7 +16,7 @@ use Rattle.timing.specs.SlotLaws.{Each, or-false}
 use Rattle.accepted.specs.Lists.{and-false}
 use Rattle.timing.specs.SlotFits.{Divides}
 use Rattle.timing.specs.Accepted.{Absent, Distinct}
-use Rattle.refusals.specs.declared.Verdict.TheVariants.{Fine}
+use Rattle.refusals.specs.Verdicts.{Fine}
 use Rattle.refusals.specs.Checks.{first}
 use Rattle.refusals.specs.ChecksLaws.{fine-one}
 use Rattle.refusals.specs.Refusals.{beyond, divides, divides_all, among}

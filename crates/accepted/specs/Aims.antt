@@ -10,7 +10,7 @@ use Rattle.codec.proofs.Codecs.{and_left, and_right}
 use Rattle.model.specs.Modules.{Module, Mode, Task, Output, Act, Update, each}
 use Rattle.text.specs.Items.{syntax_of}
 use Rattle.file.specs.References.{task_roles, port_roles, is_source, is_actuator, good_driver}
-use Rattle.refusals.specs.declared.Verdict.TheVariants.{Fine}
+use Rattle.refusals.specs.Verdicts.{Fine}
 use Rattle.refusals.specs.Texts.{verdict_of, module_of}
 use Rattle.timing.specs.SlotLaws.{Each}
 use Rattle.timing.specs.Rules.{no_mode, task_ports_from}

@@ -5,7 +5,7 @@ use Rattle.std.proofs.Common.{◌∙◌}
 use Rattle.file.specs.Files.{decode, read, sound}
 use Rattle.file.proofs.RoundTrips.{decode-encode}
 use Rattle.timing.specs.Accepted.{Accepted}
-use Rattle.refusals.specs.declared.Verdict.TheVariants.{Fine}
+use Rattle.refusals.specs.Verdicts.{Fine}
 use Rattle.refusals.specs.ChecksLaws.{leftmost-unique}
 use Rattle.refusals.proofs.RulesOrder.{verdict-leftmost}
 use Rattle.refusals.specs.Texts.{all_rules, verdict_of, module_of}

@@ -12,7 +12,7 @@ use Rattle.text.specs.Items.{item_at, goes, onto, items_in, items_of, refused_or
 use Rattle.text.proofs.Advance.{item-ahead}
 use Rattle.text.proofs.PartsLaws.{unsaid}
 use Rattle.refusals.specs.declared.Row.{Row}
-use Rattle.refusals.specs.declared.Verdict.TheVariants.{Fine}
+use Rattle.refusals.specs.Verdicts.{Fine}
 use Rattle.refusals.specs.Checks.{first}
 use Rattle.refusals.specs.ChecksLaws.{fine-parts}
 use Rattle.refusals.specs.Declarations.{declares, rows_after}

@@ -26,7 +26,7 @@ use Rattle.text.specs.Items.{syntax_of}
 use Rattle.text.specs.Productions.{count_at}
 use Rattle.timing.specs.SlotLaws.{Each}
 use Rattle.refusals.specs.declared.Row.{Row}
-use Rattle.refusals.specs.declared.Verdict.TheVariants.{Fine}
+use Rattle.refusals.specs.Verdicts.{Fine}
 use Rattle.refusals.specs.Checks.{first}
 use Rattle.refusals.specs.Names.{no_type}
 use Rattle.refusals.specs.Ports.{argument_named}

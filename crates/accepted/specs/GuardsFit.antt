@@ -20,7 +20,7 @@ use Rattle.text.specs.Productions.{count_at}
 use Rattle.timing.specs.SlotLaws.{Each}
 use Rattle.timing.specs.Accepted.{OperandFits, GuardFits}
 use Rattle.refusals.specs.declared.Row.{Row}
-use Rattle.refusals.specs.declared.Verdict.TheVariants.{Fine}
+use Rattle.refusals.specs.Verdicts.{Fine}
 use Rattle.refusals.specs.Checks.{first}
 use Rattle.refusals.specs.ChecksLaws.{fine-one}
 use Rattle.refusals.specs.Names.{no_type}

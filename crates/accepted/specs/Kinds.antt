@@ -9,7 +9,7 @@ use Rattle.text.specs.Items.{syntax_of}
 use Rattle.text.proofs.PartsLaws.{unsaid}
 use Rattle.timing.specs.SlotLaws.{Each}
 use Rattle.refusals.specs.declared.Row.{Row}
-use Rattle.refusals.specs.declared.Verdict.TheVariants.{Fine}
+use Rattle.refusals.specs.Verdicts.{Fine}
 use Rattle.refusals.specs.Checks.{first}
 use Rattle.refusals.specs.Names.{count, is_port}
 use Rattle.refusals.specs.Declarations.{ports_in}

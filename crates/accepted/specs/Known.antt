@@ -15,7 +15,7 @@ use Rattle.text.specs.declared.Item.{Item}
 use Rattle.timing.specs.SlotLaws.{Each}
 use Rattle.timing.specs.Accepted.{ports, OperandFits}
 use Rattle.refusals.specs.declared.Row.{Row}
-use Rattle.refusals.specs.declared.Verdict.TheVariants.{Fine}
+use Rattle.refusals.specs.Verdicts.{Fine}
 use Rattle.refusals.specs.Checks.{first}
 use Rattle.refusals.specs.ChecksLaws.{fine-one}
 use Rattle.refusals.specs.Names.{named, module_scope, task_scope, constant_sort, sensor_sort, task_sort, output_sort, unknown, is_known, is_unknown}

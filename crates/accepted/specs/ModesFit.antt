@@ -17,7 +17,7 @@ use Rattle.timing.specs.SlotLaws.{Each}
 use Rattle.timing.specs.SlotFits.{Divides, divided-clears}
 use Rattle.timing.specs.Accepted.{ports, Distinct, Leads, Guarded, UpdateFits}
 use Rattle.refusals.specs.declared.Row.{Row}
-use Rattle.refusals.specs.declared.Verdict.TheVariants.{Fine}
+use Rattle.refusals.specs.Verdicts.{Fine}
 use Rattle.refusals.specs.Checks.{first}
 use Rattle.refusals.specs.ChecksLaws.{fine-parts, fine-one}
 use Rattle.refusals.specs.Names.{module_scope, actuator_sort, task_sort, mode_sort, is_known}

@@ -10,7 +10,7 @@ use Rattle.text.specs.declared.State.TheVariants as Q
 use Rattle.text.specs.declared.Item.{Item}
 use Rattle.text.specs.Items.{syntax_of}
 use Rattle.refusals.specs.declared.Row.{Row}
-use Rattle.refusals.specs.declared.Verdict.TheVariants.{Fine}
+use Rattle.refusals.specs.Verdicts.{Fine}
 use Rattle.refusals.specs.Checks.{first}
 use Rattle.refusals.specs.Names.{letters, sensor_sort, actuator_sort, input_sort, output_sort}
 use Rattle.refusals.specs.Values.{type_named, literal_word}

@@ -10,7 +10,7 @@ use Rattle.model.specs.Modules.{Sensor, Actuator, Output, Task, each}
 use Rattle.text.specs.Items.{syntax_of}
 use Rattle.text.proofs.PartsLaws.{unsaid}
 use Rattle.refusals.specs.declared.Row.{Row}
-use Rattle.refusals.specs.declared.Verdict.TheVariants.{Fine}
+use Rattle.refusals.specs.Verdicts.{Fine}
 use Rattle.refusals.specs.Names.{sensor_sort, actuator_sort, input_sort, output_sort, count, is_sort, is_port}
 use Rattle.refusals.specs.Texts.{verdict_of, module_of}
 use Rattle.accepted.specs.Folds.{all_rows}

@@ -15,7 +15,7 @@ use Rattle.text.specs.declared.Item.{Item}
 use Rattle.text.specs.Items.{syntax_of}
 use Rattle.timing.specs.SlotLaws.{Each}
 use Rattle.refusals.specs.declared.Row.{Row}
-use Rattle.refusals.specs.declared.Verdict.TheVariants.{Fine}
+use Rattle.refusals.specs.Verdicts.{Fine}
 use Rattle.refusals.specs.Checks.{first}
 use Rattle.refusals.specs.ChecksLaws.{fine-parts, fine-one}
 use Rattle.refusals.specs.Names.{module_scope, constant_sort, task_sort, mode_sort, is_sort, is_port, unknown, is_unknown, is_row, find, meaning, named, count, no_type}

@@ -11,7 +11,7 @@ use Rattle.text.specs.Items.{syntax_of}
 use Rattle.timing.specs.SlotLaws.{or_elim}
 use Rattle.timing.specs.Calls.{start_from, start_mode}
 use Rattle.refusals.specs.declared.Row.{Row}
-use Rattle.refusals.specs.declared.Verdict.TheVariants.{Fine}
+use Rattle.refusals.specs.Verdicts.{Fine}
 use Rattle.refusals.specs.Checks.{first}
 use Rattle.refusals.specs.ChecksLaws.{fine-one, fine-parts}
 use Rattle.refusals.specs.Activities.{start_rules, end_rules}

@@ -19,7 +19,7 @@ use Rattle.text.specs.Items.{syntax_of}
 use Rattle.timing.specs.SlotLaws.{Each}
 use Rattle.timing.specs.Accepted.{Accepted, CallFits, ModeFits}
 use Rattle.timing.specs.Code.{terminates_from, mode_drivers, mode_driver_count, drivers_of, begins_from, begins_of, mode_code, code_of}
-use Rattle.refusals.specs.declared.Verdict.TheVariants.{Fine}
+use Rattle.refusals.specs.Verdicts.{Fine}
 use Rattle.refusals.specs.Texts.{verdict_of, module_of}
 use Rattle.accepted.specs.Lists.{each_append, each-mapped}
 use Rattle.accepted.specs.CodeFits.{Good, driver_count, code-good, begins-in, every-mode}

@@ -36,7 +36,7 @@ use Rattle.text.specs.Items.{syntax_of}
 use Rattle.timing.specs.SlotLaws.{Each, each-zip}
 use Rattle.timing.specs.Accepted.{ports, OperandFits, SecondFits, GuardFits, CallFits, UpdateFits, ModeFits, Accepted}
 use Rattle.timing.specs.Code.{terminates_from, mode_drivers, drivers_of, begins_of, code_of}
-use Rattle.refusals.specs.declared.Verdict.TheVariants.{Fine}
+use Rattle.refusals.specs.Verdicts.{Fine}
 use Rattle.refusals.specs.Activities.{activities_in}
 use Rattle.refusals.specs.Texts.{verdict_of, module_of}
 use Rattle.accepted.specs.Lists.{each_append, each_map, each-mapped}

@@ -11,7 +11,7 @@ use Rattle.text.specs.declared.Item.{Item}
 use Rattle.text.specs.Items.{syntax_of}
 use Rattle.timing.specs.SlotLaws.{Each}
 use Rattle.refusals.specs.declared.Row.{Row}
-use Rattle.refusals.specs.declared.Verdict.TheVariants.{Fine}
+use Rattle.refusals.specs.Verdicts.{Fine}
 use Rattle.refusals.specs.Checks.{first}
 use Rattle.refusals.specs.ChecksLaws.{fine-parts}
 use Rattle.refusals.specs.Names.{letters, task_sort, input_sort, output_sort, count, types, is_sort, is_port_of, row_of}

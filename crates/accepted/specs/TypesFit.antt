@@ -13,7 +13,7 @@ use Rattle.text.specs.declared.Item.{Item}
 use Rattle.text.specs.Items.{syntax_of}
 use Rattle.timing.specs.SlotLaws.{Each}
 use Rattle.refusals.specs.declared.Row.{Row}
-use Rattle.refusals.specs.declared.Verdict.TheVariants.{Fine}
+use Rattle.refusals.specs.Verdicts.{Fine}
 use Rattle.refusals.specs.Checks.{first}
 use Rattle.refusals.specs.ChecksLaws.{fine-parts, fine-one}
 use Rattle.refusals.specs.Names.{letters, module_scope, constant_sort, actuator_sort, task_sort, mode_sort, output_sort, no_type}

@@ -1,11 +1,12 @@
 -- Laws of what is kept: numbers up to a bound, and searches in the numbers of a mode.
-use Rattle.std.specs.Prelude.{ℕ, ◌+◌, ◌*◌, ◌≤◌, ◌<◌, ◌%◌, min, ◌≡◌, refl, List, ◌∷◌, Bool, true, false, cond, ◌||◌, eqb, ltb, length, get_or, take, drop}
+use Rattle.std.specs.Prelude.{ℕ, ◌+◌, ◌*◌, ◌≤◌, ◌<◌, ◌%◌, min, ◌≡◌, refl, List, [], ◌∷◌, Bool, true, false, cond, ◌&&◌, ◌||◌, eqb, ltb, length, get_or, take, drop}
+use Rattle.std.specs.List.{list_all, list_any}
 use Rattle.std.proofs.Common.{◌∙◌, arith, add-one, ltb-true, ltb-false, lt-ltb, le-ltb, eqb-true, eq-eqb, ne_eqb, drop_of_length-le, drop-cons, get_or-take, length-take-le, take_all}
 use Rattle.std.proofs.lemmas.Bool.{eqb-false}
 use Rattle.std.proofs.Math.Seq.{take-length}
 use Rattle.text.specs.declared.Name.{Name}
 use Rattle.model.specs.Rooms.{frequency_room, period_room}
-use Rattle.refusals.specs.Refusals.{beyond, divides_all}
+use Rattle.refusals.specs.Refusals.{beyond, divides_all, among}
 use Rattle.refusals.specs.Values.{number_of}
 use Rattle.refusals.specs.Activities.{period_at}
 use Rattle.activities.specs.Kept.{period_kept}
@@ -77,3 +78,23 @@ module _ (frequency : ℕ) (l : List ℕ) (n i : ℕ) (g : n ≤ length l) where
   divides-out h e = rw (here h) (simp (ne_eqb _ _ e))
 
 pub ruleset divides_laws = (divides-out, divides-on)
+
+-- ---- the library's searches
+
+pub all-divided : (frequency : ℕ) (l : List ℕ) → list_all (λ number. eqb (number % frequency) 0) l ≡ divides_all frequency l
+unfolding divides_all
+all-divided frequency [] = refl
+all-divided frequency (number ∷ numbers) = by (eqb (number % frequency) 0) (all-divided frequency numbers)
+  where
+    by : (b : Bool) → list_all (λ number. eqb (number % frequency) 0) numbers ≡ divides_all frequency numbers → (b && list_all (λ number. eqb (number % frequency) 0) numbers) ≡ cond b (divides_all frequency numbers) false
+    by true e = e
+    by false e = refl
+
+pub any-among : (number : ℕ) (l : List ℕ) → list_any (λ other. eqb other number) l ≡ among number l
+unfolding among
+any-among number [] = refl
+any-among number (other ∷ others) = by (eqb other number) (any-among number others)
+  where
+    by : (b : Bool) → list_any (λ other. eqb other number) others ≡ among number others → (b || list_any (λ other. eqb other number) others) ≡ cond b true (among number others)
+    by true e = refl
+    by false e = e

@@ -8,10 +8,10 @@ ghost use Rattle.refusals.specs.Checks.{first};
 ghost use Rattle.refusals.specs.Refusals.{beyond as beyond_room};
 ghost use Rattle.refusals.specs.Declarations.{new_rules};
 ghost use Rattle.refusals.specs.Activities.{start_rules, period_rules, end_rules};
-ghost use Rattle.names.specs.Tables.{rows_in};
-ghost use Rattle.names.specs.Index.{Indexed};
+ghost use Rattle.judging.specs.Known.{rows_of, Right};
 ghost use Rattle.activities.specs.Kept.{period_kept};
 
+use judging::{Names, rule};
 use refusals::Verdict;
 use text::Name;
 
@@ -23,22 +23,14 @@ pub mod operands;
 fn beyond(limit: usize, number: usize) -> bool
     ensures { result ≡ beyond_room limit number }
 {
-    if number == 0 {
-        return true;
-    }
-    limit < number
+    number == 0 || limit < number
 }
 
 // A mode's first keyword: a second "start".
 fn start_rules(started: bool, start: bool, at: usize) -> Verdict
     ensures { result ≡ first (start_rules started start at) }
 {
-    if start {
-        if started {
-            return Verdict::No { number: 12, at: at };
-        }
-    }
-    Verdict::Fine
+    rule(12, at, start && started)
 }
 
 // A period in microseconds, of digits that are kept up to 4294967296.
@@ -46,31 +38,23 @@ pub fn period_of(s: &[u8], digits: Name, milli: bool) -> usize
     ensures { result ≡ period_kept s.now digits milli }
 {
     let number = meanings::number_of(s, digits);
-    if milli {
-        return number * 1000;
-    }
-    number
+    if milli { number * 1000 } else { number }
 }
 
 // A period.
 fn period_rules(s: &[u8], digits: Name, milli: bool) -> Verdict
     ensures { result ≡ first (period_rules s.now digits milli) }
 {
-    let period = period_of(s, digits, milli);
-    if beyond(2147483647, period) {
-        return Verdict::No {
-            number: 8,
-            at: digits.start,
-        };
-    }
-    Verdict::Fine
+    rule(
+        8,
+        digits.start,
+        beyond(2147483647, period_of(s, digits, milli)),
+    )
 }
 
 // A mode, up to its "{".
 pub fn mode_rules(
-    s: &[u8],
-    cells: &[usize],
-    n: usize,
+    names: &Names<'_>,
     started: bool,
     start: bool,
     at: usize,
@@ -78,25 +62,16 @@ pub fn mode_rules(
     digits: Name,
     milli: bool,
 ) -> Verdict
-    ensures { Indexed s.now cells.now → result ≡ first (start_rules started start at ++ (new_rules s.now (rows_in cells.now n) 4 name ++ period_rules s.now digits milli)) }
+    ensures { Right names.now → result ≡ first (start_rules started start at ++ (new_rules names.now.text.now (rows_of names.now) 4 name ++ period_rules names.now.text.now digits milli)) }
 {
-    let once = start_rules(started, start, at);
-    let Verdict::Fine = once else {
-        return once;
-    };
-    let fresh = judging::declarations::new_rules(s, cells, n, 4, name);
-    let Verdict::Fine = fresh else {
-        return fresh;
-    };
-    period_rules(s, digits, milli)
+    start_rules(started, start, at)?;
+    names.new_rules(4, name)?;
+    period_rules(names.text, digits, milli)
 }
 
 // The end of the text.
 pub fn end_rules(started: bool, at: usize) -> Verdict
     ensures { result ≡ first (end_rules started at) }
 {
-    if started {
-        return Verdict::Fine;
-    }
-    Verdict::No { number: 12, at: at }
+    rule(12, at, !started)
 }

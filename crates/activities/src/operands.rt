@@ -5,6 +5,7 @@ ghost use Rattle.refusals.specs.Checks.{first};
 ghost use Rattle.refusals.specs.Activities.{guard_rules};
 ghost use Rattle.activities.specs.Operands.{operand_type};
 
+use judging::{name_rules, rule};
 use refusals::Verdict;
 use text::Name;
 
@@ -38,22 +39,7 @@ pub fn operand_type(number: usize) -> usize
 pub fn guard_rules(number: usize, name: Name, count: usize) -> Verdict
     ensures { result ≡ first (guard_rules number name count) }
 {
-    let short = judging::name_rules(name);
-    let Verdict::Fine = short else {
-        return short;
-    };
-    if 4 <= number {
-        return Verdict::No {
-            number: 6,
-            at: name.start,
-        };
-    }
-    let wanted = operands_of(number);
-    if wanted != count {
-        return Verdict::No {
-            number: 7,
-            at: name.start,
-        };
-    }
-    Verdict::Fine
+    name_rules(name)?;
+    rule(6, name.start, 4 <= number)?;
+    rule(7, name.start, operands_of(number) != count)
 }

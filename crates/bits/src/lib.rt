@@ -17,55 +17,33 @@ pub fn word_at(words: &[u64], i: usize) -> u64
 pub fn has(word: u64, task: u32) -> bool
     ensures { result ≡ has_of word task }
 {
-    if task < 64 {
-        return (word >> task) % 2 == 1;
-    }
-    false
+    task < 64 && (word >> task) & 1 == 1
 }
 
 // The word with the task, and without it.
 pub fn join(word: u64, task: u32) -> u64
     ensures { result ≡ joined word task }
 {
-    if has(word, task) {
-        return word;
-    }
-    if task < 64 {
-        return word + (1u64 << task);
-    }
-    word
+    if task < 64 { word | 1 << task } else { word }
 }
 
 pub fn part(word: u64, task: u32) -> u64
     ensures { result ≡ parted word task }
 {
-    if has(word, task) {
-        return word - (1u64 << task);
-    }
-    word
+    if task < 64 { word & !(1 << task) } else { word }
 }
 
 // The lowest-numbered task of a word, or none.
-#[derive(Clone, Copy)]
-pub enum Found {
-    Task(u32),
-    Nobody,
-}
-
-pub fn lowest(word: u64) -> Found
+pub fn lowest(word: u64) -> Option<u32>
     ensures { result ≡ found_of (lowest_in word) }
 {
-    let zeros = u64::trailing_zeros(word);
-    if zeros < 64 {
-        Found::Task(zeros)
-    } else {
-        Found::Nobody
-    }
+    let zeros = word.trailing_zeros();
+    if zeros < 64 { Some(zeros) } else { None }
 }
 
 // How many tasks are in a word.
 pub fn count(word: u64) -> u32
     ensures { result ≡ count_in word }
 {
-    u64::count_ones(word)
+    word.count_ones()
 }

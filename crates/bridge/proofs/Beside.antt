@@ -1,5 +1,5 @@
 -- The machine and the timing rules side by side: at every place of a history, and over one call more.
-use Rattle.std.specs.Prelude.{ℕ, refl, Bool, true, false, cond, List, [], ◌∷◌, ◌++◌}
+use Rattle.std.specs.Prelude.{ℕ, refl, Bool, true, false, cond, List, [], ◌∷◌, ◌++◌, Some, None, Ok, Err}
 use Rattle.std.proofs.Common.{arith, sym, ◌∙◌, ap, subst}
 use Rattle.std.proofs.Math.Path.{◌≡◌}
 use Rattle.std.proofs.Math.Option.{Option, none, some}
@@ -14,8 +14,6 @@ use Rattle.timing.specs.Histories.{shadow, Waiting, Both}
 use Rattle.timing.proofs.Histories.{call-both, start-both}
 use Rattle.machine.specs.declared.Reaction.{Reaction}
 use Rattle.machine.specs.declared.Reaction.TheVariants.{Obeyed, Idle, Refused, Late, Fault}
-use Rattle.machine.specs.declared.Turn.TheVariants as T
-use Rattle.machine.specs.declared.Finishing.TheVariants as F
 use Rattle.machine.specs.Boards.{Board}
 use Rattle.machine.specs.Instructions as E
 use Rattle.machine.specs.Instructions.{Res, ok, bad, Halt, Tally}
@@ -36,11 +34,11 @@ late-answer (ticking Idle) task e = let z : ◌≡◌ {A = ℕ} 0 1 = cc in absu
 late-answer (ticking (Refused number)) task e = let z : ◌≡◌ {A = ℕ} 0 1 = cc in absurd (omega arith)
 late-answer (ticking (Late other)) task e = let h : other ≡ task = cc in ap (λ (k : ℕ). ticking (Late k)) h
 late-answer (ticking (Fault number)) task e = let z : ◌≡◌ {A = ℕ} 0 1 = cc in absurd (omega arith)
-late-answer (turning (T.Task other)) task e = let z : ◌≡◌ {A = ℕ} 0 1 = cc in absurd (omega arith)
-late-answer (turning T.Nobody) task e = let z : ◌≡◌ {A = ℕ} 0 1 = cc in absurd (omega arith)
-late-answer (turning (T.Refused number)) task e = let z : ◌≡◌ {A = ℕ} 0 1 = cc in absurd (omega arith)
-late-answer (finishing F.Taken) task e = let z : ◌≡◌ {A = ℕ} 0 1 = cc in absurd (omega arith)
-late-answer (finishing (F.Refused number)) task e = let z : ◌≡◌ {A = ℕ} 0 1 = cc in absurd (omega arith)
+late-answer (turning (Ok (Some other))) task e = let z : ◌≡◌ {A = ℕ} 0 1 = cc in absurd (omega arith)
+late-answer (turning (Ok None)) task e = let z : ◌≡◌ {A = ℕ} 0 1 = cc in absurd (omega arith)
+late-answer (turning (Err why)) task e = let z : ◌≡◌ {A = ℕ} 0 1 = cc in absurd (omega arith)
+late-answer (finishing (Ok _)) task e = let z : ◌≡◌ {A = ℕ} 0 1 = cc in absurd (omega arith)
+late-answer (finishing (Err why)) task e = let z : ◌≡◌ {A = ℕ} 0 1 = cc in absurd (omega arith)
 
 -- ---- what a late task leaves of the machine
 module _ (b : Board) (m : State) (count : ℕ) (types words : List ℕ) (task : ℕ) where

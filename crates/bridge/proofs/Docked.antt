@@ -1,5 +1,5 @@
 -- The machine's calls on words are a dock's calls on standings, answer for answer.
-use Rattle.std.specs.Prelude.{ℕ, zero, suc, ◌+◌, ◌-◌, ◌*◌, ◌≤◌, ◌<◌, ◌≡◌, Bool, ◌&&◌, not, length, get_or, set, take, drop, eqb, ltb}
+use Rattle.std.specs.Prelude.{ℕ, zero, suc, ◌+◌, ◌-◌, ◌*◌, ◌≤◌, ◌<◌, ◌≡◌, Bool, ◌&&◌, not, length, get_or, set, take, drop, eqb, ltb, None, Ok}
 use Rattle.std.proofs.Common.{arith, sym, ◌∙◌, ap₂, lt-ltb}
 use Rattle.std.proofs.Math.Path.{refl, ap, subst}
 use Rattle.std.proofs.Math.Bool.{true, false, cond}
@@ -15,8 +15,7 @@ use Rattle.timing.specs.Calls.{Ask, lowest}
 use Rattle.timing.specs.Code.{code_of, begins_of}
 use Rattle.timing.specs.Accepted.{Accepted, ports}
 use Rattle.machine.specs.declared.Reaction.TheVariants.{Obeyed, Idle, Refused, Late, Fault}
-use Rattle.machine.specs.declared.Turn.TheVariants as T
-use Rattle.machine.specs.declared.Finishing.TheVariants as F
+use Rattle.machine.specs.Told.{refuse}
 use Rattle.machine.specs.Words.{has, joined, parted, lowest_in}
 use Rattle.machine.specs.Boards.{Board, aside_room}
 use Rattle.machine.specs.Instructions as E
@@ -124,7 +123,7 @@ module _ (M : Module) (W : Accepted M) (m : State) (H : Held M m) where
 
     next-open : next_task m ≡ handed_out m (lowest_in m.store.waiting)
     unfolding next_task
-    next-open = ap (λ (y : Bool). cond y (record { answer = T.Refused 31; state = m }) (handed_out m (lowest_in m.store.waiting))) on
+    next-open = ap (λ (y : Bool). cond y (record { answer = refuse 31; state = m }) (handed_out m (lowest_in m.store.waiting))) on
 
     next-on : Agrees M (asks M C.next m) (answered M C.next (dock_of M m) none)
     next-on =
@@ -133,7 +132,7 @@ module _ (M : Module) (W : Accepted M) (m : State) (H : Held M m) where
         (subst (λ (h : Handed). Agrees M (as_handed h) (D.handed_out M (dock_of M m) (lowest_in m.store.waiting))) (sym next-open) (go (lowest_in m.store.waiting) refl))
       where
         go : (o : Option ℕ) → lowest_in m.store.waiting ≡ o → Agrees M (record { answer = turning (handed_out m o).answer; state = (handed_out m o).state }) (D.handed_out M (dock_of M m) o)
-        go none e = still (turning T.Nobody) (turning T.Nobody) refl
+        go none e = still (turning (Ok None)) (turning (Ok None)) refl
         go (some task) e =
             let (o, w, f, l) = lowest-waits M W.few-tasks m.aside m.store.out m.store.waiting m.store.finished H.neat task e in
             record {
@@ -148,12 +147,12 @@ module _ (M : Module) (W : Accepted M) (m : State) (H : Held M m) where
       abbrev taken : Finished
       taken =
           record {
-            answer = F.Taken;
+            answer = Ok tt;
             state = with_words m (record { ports = m.store.ports; out = m.store.out; waiting = m.store.waiting; finished = joined m.store.finished task }) (place (task * port_room) words m.aside);
           }
 
       abbrev refused_with : ℕ → Finished
-      refused_with number = record { answer = F.Refused number; state = m }
+      refused_with number = record { answer = refuse number; state = m }
 
       abbrev as_finished : Finished → Asked
       as_finished x = record { answer = finishing x.answer; state = x.state }
@@ -161,9 +160,9 @@ module _ (M : Module) (W : Accepted M) (m : State) (H : Held M m) where
       finishes : (x : Bool) → has m.store.out task ≡ x → (y : Bool) → has m.store.waiting task ≡ y → (z : Bool) → has m.store.finished task ≡ z
           → Agrees M (as_finished (cond (ltb task task_room && (x && (not y && not z))) (cond (fits (result_types (board M) task) types words) taken (refused_with 35)) (refused_with 34)))
           (D.finished_by M (dock_of M m) task types words (stand_of x y z (row_of M m.aside task)))
-      finishes false o y w z f = rw (and-false (ltb task task_room)) (still (finishing (F.Refused 34)) (finishing (F.Refused 34)) refl)
-      finishes true o true w z f = rw (and-false (ltb task task_room)) (still (finishing (F.Refused 34)) (finishing (F.Refused 34)) refl)
-      finishes true o false w true f = rw (and-false (ltb task task_room)) (still (finishing (F.Refused 34)) (finishing (F.Refused 34)) refl)
+      finishes false o y w z f = rw (and-false (ltb task task_room)) (still (finishing (refuse 34)) (finishing (refuse 34)) refl)
+      finishes true o true w z f = rw (and-false (ltb task task_room)) (still (finishing (refuse 34)) (finishing (refuse 34)) refl)
+      finishes true o false w true f = rw (and-false (ltb task task_room)) (still (finishing (refuse 34)) (finishing (refuse 34)) refl)
       finishes true o false w false f =
           let l : task < tasks M = H.neat.within task o in
           let t = W.few-tasks in
@@ -174,8 +173,8 @@ module _ (M : Module) (W : Accepted M) (m : State) (H : Held M m) where
           mapped g (a ∷ list) = ap suc (mapped g list)
 
           by : task < tasks M → (b : Bool) → fits (C.result_types M task) types words ≡ b
-              → Agrees M (as_finished (cond b taken (refused_with 35))) (cond b (record { answer = finishing F.Taken; dock = D.with_tasks (dock_of M m) (set (dock_of M m).store.tasks task (done words)) }) (D.tells (dock_of M m) (finishing (F.Refused 35))))
-          by l false e = still (finishing (F.Refused 35)) (finishing (F.Refused 35)) refl
+              → Agrees M (as_finished (cond b taken (refused_with 35))) (cond b (record { answer = finishing (Ok tt); dock = D.with_tasks (dock_of M m) (set (dock_of M m).store.tasks task (done words)) }) (D.tells (dock_of M m) (finishing (refuse 35))))
+          by l false e = still (finishing (refuse 35)) (finishing (refuse 35)) refl
           by l true e =
               let many : length words ≡ results_of M task = fits-many (C.result_types M task) types words e ∙ mapped (λ (o : Output). o.type) (get_or M.tasks task no_task).outputs in
               record {
@@ -210,10 +209,10 @@ module _ (M : Module) (W : Accepted M) (m : State) (H : Held M m) where
   tick_stop = record { answer = Refused 31; state = m }
 
   abbrev next_stop : Handed
-  next_stop = record { answer = T.Refused 31; state = m }
+  next_stop = record { answer = refuse 31; state = m }
 
   abbrev finish_stop : Finished
-  finish_stop = record { answer = F.Refused 31; state = m }
+  finish_stop = record { answer = refuse 31; state = m }
 
   tick-shut : (count : ℕ) (types words : List ℕ) → m.stopped ≡ true → tick (board M) m count types words ≡ tick_stop
   unfolding tick
@@ -227,16 +226,16 @@ module _ (M : Module) (W : Accepted M) (m : State) (H : Held M m) where
   unfolding finish
   finish-shut task types words e =
       let store : Store = record { ports = m.store.ports; out = m.store.out; waiting = m.store.waiting; finished = joined m.store.finished task } in
-      let taken : Finished = record { answer = F.Taken; state = with_words m store (place (task * port_room) words m.aside) } in
-      ap (λ (y : Bool). cond y finish_stop (cond (at_work m.store task) (cond (fits (result_types (board M) task) types words) taken (record { answer = F.Refused 35; state = m })) (record { answer = F.Refused 34; state = m }))) e
+      let taken : Finished = record { answer = Ok tt; state = with_words m store (place (task * port_room) words m.aside) } in
+      ap (λ (y : Bool). cond y finish_stop (cond (at_work m.store task) (cond (fits (result_types (board M) task) types words) taken (record { answer = refuse 35; state = m })) (record { answer = refuse 34; state = m }))) e
 
   off : (a : Ask) (f : E.Fault) → m.stopped ≡ true → Agrees M (asks M a m) (answered M a (dock_of M m) (some f))
   off (C.tick count types words) f e =
       subst (λ (t : Ticked). Agrees M (record { answer = ticking t.answer; state = t.state }) (D.tells (dock_of M m) (ticking (Refused 31)))) (sym (tick-shut count types words e)) (still (ticking (Refused 31)) (ticking (Refused 31)) refl)
   off C.next f e =
-      subst (λ (t : Handed). Agrees M (record { answer = turning t.answer; state = t.state }) (D.tells (dock_of M m) (turning (T.Refused 31)))) (sym (next-shut e)) (still (turning (T.Refused 31)) (turning (T.Refused 31)) refl)
+      subst (λ (t : Handed). Agrees M (record { answer = turning t.answer; state = t.state }) (D.tells (dock_of M m) (turning (refuse 31)))) (sym (next-shut e)) (still (turning (refuse 31)) (turning (refuse 31)) refl)
   off (C.finish task types words) f e =
-      subst (λ (t : Finished). Agrees M (record { answer = finishing t.answer; state = t.state }) (D.tells (dock_of M m) (finishing (F.Refused 31)))) (sym (finish-shut task types words e)) (still (finishing (F.Refused 31)) (finishing (F.Refused 31)) refl)
+      subst (λ (t : Finished). Agrees M (record { answer = finishing t.answer; state = t.state }) (D.tells (dock_of M m) (finishing (refuse 31)))) (sym (finish-shut task types words e)) (still (finishing (refuse 31)) (finishing (refuse 31)) refl)
 
   -- every call
   pub call_same : (a : Ask) → Agrees M (asks M a m) (asked M a (dock_of M m))

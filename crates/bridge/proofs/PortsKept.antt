@@ -1,5 +1,5 @@
 -- Nothing early (document 01, 'What time does'): when a port of the machine changes, and to what.
-use Rattle.std.specs.Prelude.{ℕ, ◌+◌, ◌*◌, ◌<◌, ◌≡◌, ◌≢◌, ◌⊎◌, Bool, cond, List, get_or}
+use Rattle.std.specs.Prelude.{ℕ, ◌+◌, ◌*◌, ◌<◌, ◌≡◌, ◌≢◌, ◌⊎◌, Bool, cond, List, get_or, Ok}
 use Rattle.std.proofs.Math.Path.{refl}
 use Rattle.std.proofs.Common.{sym, ◌∙◌, ap, subst, inl, inr}
 use Rattle.std.proofs.Math.Bool.{true, false}
@@ -23,8 +23,7 @@ use Rattle.timing.proofs.NothingEarly as NLaws
 use Rattle.timing.proofs.NothingEarly.{fit-history}
 use Rattle.timing.specs.Docks.{ticking, reply_to}
 use Rattle.machine.specs.declared.Reaction.TheVariants.{Obeyed, Refused}
-use Rattle.machine.specs.declared.Turn.TheVariants as T
-use Rattle.machine.specs.declared.Finishing.TheVariants as F
+use Rattle.machine.specs.Told.{refuse}
 use Rattle.machine.specs.Boards.{Board}
 use Rattle.machine.specs.Instructions as E
 use Rattle.machine.specs.Instructions.{Res, ok, bad, Halt, Tally}
@@ -87,7 +86,7 @@ module _ (m : State) where
         taken = K.with_words m (record { ports = m.store.ports; out = m.store.out; waiting = m.store.waiting; finished = joined m.store.finished task }) (place (task * port_room) words m.aside)
 
         go : (stopped working fit : Bool)
-            → Resting m (cond {A = Finished} stopped (record { answer = F.Refused 31; state = m }) (cond {A = Finished} working (cond {A = Finished} fit (record { answer = F.Taken; state = taken }) (record { answer = F.Refused 35; state = m })) (record { answer = F.Refused 34; state = m }))).state
+            → Resting m (cond {A = Finished} stopped (record { answer = refuse 31; state = m }) (cond {A = Finished} working (cond {A = Finished} fit (record { answer = Ok tt; state = taken }) (record { answer = refuse 35; state = m })) (record { answer = refuse 34; state = m }))).state
         go true working fit = rests
         go false true true = record { same-ports = refl; same_out = refl; same-mode = refl; same-pc = refl }
         go false true false = rests
@@ -101,7 +100,7 @@ module _ (m : State) where
   unfolding K.next_task
   next-rests = go m.stopped
     where
-      go : (stopped : Bool) → Resting m (cond stopped (record { answer = T.Refused 31; state = m }) (handed_out m (lowest_in m.store.waiting))).state
+      go : (stopped : Bool) → Resting m (cond stopped (record { answer = refuse 31; state = m }) (handed_out m (lowest_in m.store.waiting))).state
       go true = rests
       go false = handed-rests (lowest_in m.store.waiting)
 

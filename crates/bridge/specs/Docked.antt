@@ -15,8 +15,6 @@ use Rattle.timing.specs.Calls.{Ask, lowest}
 use Rattle.timing.specs.Code.{code_of, begins_of}
 use Rattle.timing.specs.Accepted.{Accepted, ports}
 use Rattle.machine.specs.declared.Reaction.TheVariants.{Obeyed, Idle, Refused, Late, Fault}
-use Rattle.machine.specs.declared.Turn.TheVariants as T
-use Rattle.machine.specs.declared.Finishing.TheVariants as F
 use Rattle.machine.specs.Words.{has, joined, parted, lowest_in}
 use Rattle.machine.specs.Boards.{Board, aside_room}
 use Rattle.machine.specs.Instructions as E

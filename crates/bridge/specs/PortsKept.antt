@@ -23,8 +23,6 @@ use Rattle.timing.proofs.NothingEarly as NLaws
 use Rattle.timing.proofs.NothingEarly.{fit-history}
 use Rattle.timing.specs.Docks.{ticking, reply_to}
 use Rattle.machine.specs.declared.Reaction.TheVariants.{Obeyed, Refused}
-use Rattle.machine.specs.declared.Turn.TheVariants as T
-use Rattle.machine.specs.declared.Finishing.TheVariants as F
 use Rattle.machine.specs.Boards.{Board}
 use Rattle.machine.specs.Instructions as E
 use Rattle.machine.specs.Instructions.{Res, ok, bad, Halt, Tally}

@@ -1,12 +1,12 @@
 -- What a walk asks of a row, by its kind: whether its item is the last, and how many names it declares.
-use Prim.Native.Nat.{ℕ}
+use Prim.Native.Nat.{ℕ, ◌≤◌}
 use native.Mathlib.Omega.{arith}
 use mathlib.Core.Path.{◌≡◌, refl, sym}
-use mathlib.Core.Bool.{not, cond}
+use mathlib.Core.Bool.{Bool, true, false, not, cond}
 use mathlib.Core.List.{List}
 use lib.Dec.{eqb, ltb}
 use lib.ListN.{get_or}
-use borrow.Author.Tests.{lt-ltb}
+use borrow.Author.Tests.{eqb-false, ne_eqb, lt-ltb, le-ltb, ltb-false}
 use Rattle.text.specs.declared.Item.{Item}
 use Rattle.text.specs.Items.{goes}
 use Rattle.kept.specs.Rows.{fields_in, item_of}
@@ -16,6 +16,19 @@ use Rattle.build.specs.Walks.{declaring}
 -- names are declared by the kinds 2 to 7, and 9
 abbrev declaring_by : ℕ → ℕ
 declaring_by k = cond (ltb 9 k) 0 (cond (ltb k 2) 0 (cond (eqb k 8) 0 1))
+
+module _ (k : ℕ) where
+  pub declares-none : (2 ≤ k → k ≤ 9 → k ≡ 8) → 0 ≡ declaring_by k
+  declares-none h = go (ltb 9 k) refl (ltb k 2) refl (eqb k 8) refl
+    where
+      go : (x : Bool) → ltb 9 k ≡ x → (y : Bool) → ltb k 2 ≡ y → (z : Bool) → eqb k 8 ≡ z → ◌≡◌ {A = ℕ} 0 (cond x 0 (cond y 0 (cond z 0 1)))
+      go true p y q z r = refl
+      go false p true q z r = refl
+      go false p false q true r = refl
+      go false p false q false r = absurd (eqb-false k 8 r (h (ltb-false k 2 q) (ltb-false 9 k p)))
+
+  pub declares-one : 2 ≤ k → k ≤ 9 → (k ≡ 8 → ⊥) → 1 ≡ declaring_by k
+  declares-one p q r = simp (le-ltb 9 k q, le-ltb k 2 p, ne_eqb k 8 r)
 
 abbrev Told : ℕ → Item → Type 0
 Told k item = (not (goes item) ≡ ltb 18 k) × (declaring item ≡ declaring_by k)

@@ -14,7 +14,7 @@ use Rattle.layout.specs.Plain.{sensor_names, actuator_names, mode_cells, instruc
 use Rattle.layout.specs.Filling.{padded-none, padded-zeros}
 use Rattle.layout.specs.Cells.{length-task-rows}
 use Rattle.text.specs.Items.{items_of, syntax_of}
-use Rattle.refusals.specs.declared.Verdict.TheVariants.{Fine}
+use Rattle.refusals.specs.Verdicts.{Fine}
 use Rattle.refusals.specs.Texts.{verdict_of, module_of}
 use Rattle.names.specs.Tables.{rows_in}
 use Rattle.accepted.specs.Folds.{all_rows}

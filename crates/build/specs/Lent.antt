@@ -13,70 +13,10 @@ use Rattle.build.specs.Walks.{runs}
 pub record Lent (s lent : List ℕ) (first many : ℕ) : Type 0 where
   pub each : (k : ℕ) → k < many → Right s (take 16 (drop (first + k * 16) lent))
 
--- the row at a place, as it is lent
-abbrev pub part_of : List ℕ → ℕ → List ℕ
-part_of lent place = take (place + 16 - place) (drop place lent)
-
--- a walk that is not ahead of where it began stands there, before the first row
-abbrev pub Away : ℕ → ℕ → ℕ → ℕ → ℕ → Type 0
-Away begun from k state at = at ≤ from → (k ≡ 0) × (state ≡ begun) × (at ≡ from)
-
 -- the rows that an array keeps
 pub lent-kept : {s memo : List ℕ} (many : ℕ) → many ≤ get_or memo 0 0 → Kept s memo → Lent s memo 16 many
 unfolding row_of
 lent-kept many m kept = record { each = λ k l. let e : 16 + k * 16 ≡ k * 16 + 16 = omega arith in rw e (kept.each k (omega (arith, m, l))) }
-
--- a row by itself, with its state and its place
-abbrev pub single : List ℕ → ℕ → ℕ → List ℕ
-single row state at = get_or row 0 0 ∷ state ∷ at ∷ numbers_from 3 13 row
-
-pub lent_one : {s : List ℕ} (row : List ℕ) (state at : ℕ) → read_of row ≡ item_at s (state_of state) at → Lent s (single row state at) 0 1
-lent_one {s} row state at told = record { each = by }
-  where
-    by : (k : ℕ) → k < 1 → Right s (take 16 (drop (0 + k * 16) (single row state at)))
-    by zero l = told
-    by (suc k) l = absurd (omega arith)
-
--- a row that is lent has sixteen numbers
-pub part-long : (lent : List ℕ) (place : ℕ) → place + 16 ≤ length lent → length (part_of lent place) ≡ 16
-part-long lent place h =
-    let z : place + 16 - place ≡ 16 = omega arith in
-    rw z (length-take-le 16 (drop place lent) (rw (length-drop place lent) (omega arith)))
-
--- what row k tells, where it is of this state and place
-pub lent_row : {s lent : List ℕ} {first many : ℕ} (k : ℕ) {state at : ℕ} → Lent s lent first many → k < many → get_or (part_of lent (first + k * 16)) 1 0 ≡ state → get_or (part_of lent (first + k * 16)) 2 0 ≡ at
-    → read_of (part_of lent (first + k * 16)) ≡ item_at s (state_of state) at
-lent_row {s} {lent} {first} k {state} l h p q =
-    let z : first + k * 16 + 16 - (first + k * 16) ≡ 16 = omega arith in
-    let right : Right s (part_of lent (first + k * 16)) = rw z (l.each k h) in
-    right ∙ ap (λ (n : ℕ). item_at s (state_of n) (get_or (part_of lent (first + k * 16)) 2 0)) p ∙ ap (λ (n : ℕ). item_at s (state_of state) n) q
-
--- the first row
-first-row : (lent : List ℕ) (first k : ℕ) → k ≡ 0 → part_of lent (first + k * 16) ≡ take 16 (drop first lent)
-first-row lent first k z =
-    let w : first + k * 16 + 16 - (first + k * 16) ≡ 16 = omega arith in
-    let e : first + k * 16 ≡ first = omega (arith, z) in
-    rw w (ap (λ (n : ℕ). take 16 (drop n lent)) e)
-
--- a walk that has gone on is ahead
-pub gone-on : {begun from k state at : ℕ} → Away begun from k state at → 0 < k → from < at
-gone-on {begun} {from} {k} {state} {at} away some = by (ltb from at) refl
-  where
-    by : (b : Bool) → ltb from at ≡ b → from < at
-    by true e = ltb-true from at e
-    by false e = absurd (omega (arith, (away (ltb-false from at e)).0, some))
-
--- a walk whose next row is of another state or place is ahead, if the first row is of those where it began
-pub missed : {begun from state at : ℕ} (lent : List ℕ) (first k : ℕ) → Away begun from k state at → (get_or (part_of lent (first + k * 16)) 1 0 ≡ state → get_or (part_of lent (first + k * 16)) 2 0 ≡ at → ⊥)
-    → get_or (take 16 (drop first lent)) 1 0 ≡ begun → get_or (take 16 (drop first lent)) 2 0 ≡ from → from < at
-missed {begun} {from} {state} {at} lent first k away other p q = by (ltb from at) refl
-  where
-    by : (b : Bool) → ltb from at ≡ b → from < at
-    by true e = ltb-true from at e
-    by false e =
-        let still = away (ltb-false from at e) in
-        let here = first-row lent first k still.0 in
-        absurd (other (ap (λ (l : List ℕ). get_or l 1 0) here ∙ p ∙ sym still.1) (ap (λ (l : List ℕ). get_or l 2 0) here ∙ q ∙ sym still.2))
 
 -- past the end of a text stands nothing
 pub past_end : {B : Type 0} (on : ℕ → Item → B → B) (s : List ℕ) (state : State) (at n : ℕ) (b : B) → length s < at → runs on n (items_from s state at) b ≡ b

@@ -8,7 +8,7 @@ use Rattle.timing.specs.SlotLaws.{Each}
 use Rattle.layout.specs.Plain.{sensor_names, actuator_names, task_names, output_names}
 use Rattle.layout.specs.Cells.{length-task-rows}
 use Rattle.text.specs.Items.{syntax_of}
-use Rattle.refusals.specs.declared.Verdict.TheVariants.{Fine}
+use Rattle.refusals.specs.Verdicts.{Fine}
 use Rattle.refusals.specs.Texts.{verdict_of, module_of}
 use Rattle.accepted.specs.Lists.{each_append, each_map, each-mapped}
 use Rattle.accepted.specs.NamesFit.{SensorNames, ActuatorNames, TaskNames, OutputNames, names-fit}

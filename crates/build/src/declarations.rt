@@ -3,12 +3,12 @@ ghost use Rattle.std.specs.Prelude.{◌≡◌};
 ghost use Rattle.text.specs.Items.{items_of};
 ghost use Rattle.kept.specs.Kept.{Kept};
 ghost use Rattle.names.specs.Index.{Indexed};
-ghost use Rattle.ports.specs.Boards.{board_of};
+ghost use Rattle.ports.specs.Boards.{board_in, board_of, SameArrays};
 ghost use Rattle.ports.specs.Placing.{no_ports};
 ghost use Rattle.build.specs.Walks.{board_run};
 
 use super::rows;
-use ports::Ports;
+use ports::{Arrays, Ports};
 
 fn nothing() -> Ports
     ensures { result ≡ no_ports }
@@ -26,11 +26,40 @@ fn nothing() -> Ports
     }
 }
 
+// Every item of a text, as it is kept, put into the arrays.
+fn walk(s: &[u8], memo: &[usize], cells: &[usize], arrays: &mut Arrays)
+    ensures run { Kept s.now memo.now → Indexed s.now cells.now → board_in arrays.new ≡ board_run s.now cells.now 0 (items_of s.now) (board_in arrays.old) }
+    ensures same { SameArrays arrays.new arrays.old }
+{
+    let mut row = [0; 16];
+    let mut state = 0;
+    let mut at = 0;
+    let mut n = 0;
+    let mut k = 0;
+    let mut kind = 0;
+    while at <= s.len() {
+        if kind == 9 && ports::late(kept::state_of(state)) {
+            return;
+        }
+        kept::fetch(s, memo, k, state, at, &mut row);
+        ports::placed(s, cells, n, &row, arrays);
+        kind = row[0];
+        if rows::over(kind, row[4], at) {
+            return;
+        }
+        n += rows::declaring(kind);
+        k += 1;
+        state = row[3];
+        at = row[4];
+    }
+}
+
 // Every item of a text, as it is kept, put into the arrays of declarations.
-pub fn declared<'a>(
-    s: &'a [u8],
-    memo: &'a [usize],
-    cells: &'a [usize],
+// Each array is a parameter of its own: the caller, which lent them, would spell the same names in a struct.
+pub fn declared(
+    s: &[u8],
+    memo: &[usize],
+    cells: &[usize],
     name: &mut [u8],
     sensor_names: &mut [u8],
     actuator_names: &mut [u8],
@@ -43,46 +72,18 @@ pub fn declared<'a>(
 ) -> Ports
     ensures { Kept s.now memo.now → Indexed s.now cells.now → board_of result name.new sensor_names.new actuator_names.new task_names.new output_names.new roles.new types.new starts.new task_rows.new ≡ board_run s.now cells.now 0 (items_of s.now) (board_of no_ports name.old sensor_names.old actuator_names.old task_names.old output_names.old roles.old types.old starts.old task_rows.old) }
 {
-    let mut row = [0usize; 16];
-    let mut state = 0;
-    let mut at = 0;
-    let mut n = 0;
-    let mut k = 0;
-    let mut kind = 0;
-    let mut ports = nothing();
-    while at <= s.len() {
-        if kind == 9 {
-            let reached = kept::state_of(state);
-            if ports::late(reached) {
-                return ports;
-            }
-        }
-        kept::fetch(s, memo, k, state, at, &mut row);
-        ports = ports::placed(
-            s,
-            cells,
-            n,
-            &row,
-            ports,
-            name,
-            sensor_names,
-            actuator_names,
-            task_names,
-            output_names,
-            roles,
-            types,
-            starts,
-            task_rows,
-        );
-        kind = row[0];
-        let next = row[4];
-        if rows::over(kind, next, at) {
-            return ports;
-        }
-        n += rows::declaring(kind);
-        k += 1;
-        state = row[3];
-        at = next;
-    }
-    ports
+    let mut arrays = Arrays {
+        counts: nothing(),
+        title: name,
+        sensors: sensor_names,
+        actuators: actuator_names,
+        tasks: task_names,
+        outputs: output_names,
+        roles,
+        types,
+        starts,
+        rows: task_rows,
+    };
+    walk(s, memo, cells, &mut arrays);
+    arrays.counts
 }

@@ -10,47 +10,31 @@ pub(super) fn held(memo: &[usize]) -> usize
     if memo.len() < 16 {
         return 0;
     }
-    let room = (memo.len() - 16) / 16;
-    let many = memo[0];
-    if many < room {
-        return many;
-    }
-    room
+    memo[0].min((memo.len() - 16) / 16)
 }
 
 // Whether a row is of a state and a place.
 pub(super) fn is_of(row: &[usize], state: usize, at: usize) -> bool
     requires { length row.now ≡ 16 }
-    ensures { (result ≡ true → (get_or row.now 1 0 ≡ state) × (get_or row.now 2 0 ≡ at)) × (result ≡ false → get_or row.now 1 0 ≡ state → get_or row.now 2 0 ≡ at → ⊥) }
+    ensures { result ≡ true → (get_or row.now 1 0 ≡ state) × (get_or row.now 2 0 ≡ at) }
 {
-    if row[2] == at {
-        return row[1] == state;
-    }
-    false
+    row[1] == state && row[2] == at
 }
 
 // Whether a walk ends at a place with the item of a row of this kind: it does not go on ahead, or the item is the end of the text or a refusal.
 pub(super) fn over(kind: usize, next: usize, at: usize) -> bool
     ensures { (row : List ℕ) → get_or row 0 0 ≡ kind → result ≡ over_by (item_of (fields_in row)) at next }
 {
-    if next <= at {
-        return true;
-    }
-    18 < kind
+    next <= at || 18 < kind
 }
 
 // A mode's begin declares one name, and so does each kind from a constant to an output.
 pub(super) fn declaring(kind: usize) -> usize
     ensures { (row : List ℕ) → get_or row 0 0 ≡ kind → result ≡ declaring_of (item_of (fields_in row)) }
 {
-    if 9 < kind {
-        return 0;
+    // A kind is a number here, as the lent array keeps it (kept/specs/Kinds).
+    match kind {
+        2..=7 | 9 => 1,
+        _ => 0,
     }
-    if kind < 2 {
-        return 0;
-    }
-    if kind == 8 {
-        return 0;
-    }
-    1
 }

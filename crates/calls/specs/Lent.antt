@@ -1,11 +1,8 @@
 -- What the lent arrays hold behind a call: each as before it, or written anew from the state that the call leaves.
-use Rattle.std.specs.Prelude.{ℕ, List, [], ◌∷◌, get_or}
+use Rattle.std.specs.Prelude.{ℕ, List, [], ◌∷◌, get_or, Some, None, Ok, Err}
 use Rattle.machine.specs.declared.Reaction.{Reaction}
 use Rattle.machine.specs.declared.Reaction.TheVariants as R
-use Rattle.machine.specs.declared.Turn.{Turn}
-use Rattle.machine.specs.declared.Turn.TheVariants as T
-use Rattle.machine.specs.declared.Finishing.{Finishing}
-use Rattle.machine.specs.declared.Finishing.TheVariants as F
+use Rattle.machine.specs.Told.{Turn, Finishing}
 use Rattle.machine.specs.Calls as C
 use Rattle.machine.specs.Calls.{State}
 
@@ -38,24 +35,17 @@ lent_by before t = lent_as before t.answer t.state
 
 -- the words of tasks behind next: written where a task was handed out
 abbrev pub sets_as : List ℕ → Turn → State → List ℕ
-sets_as before (T.Task task) s = sets_of s
-sets_as before T.Nobody s = before
-sets_as before (T.Refused number) s = before
+sets_as before (Ok (Some task)) s = sets_of s
+sets_as before (Ok None) s = before
+sets_as before (Err why) s = before
 
 abbrev pub sets_handed : List ℕ → C.Handed → List ℕ
 sets_handed before t = sets_as before t.answer t.state
 
 -- and behind finish: written where the results were taken
 abbrev pub sets_upon : List ℕ → Finishing → State → List ℕ
-sets_upon before F.Taken s = sets_of s
-sets_upon before (F.Refused number) s = before
+sets_upon before (Ok _) s = sets_of s
+sets_upon before (Err why) s = before
 
 abbrev pub sets_finished : List ℕ → C.Finished → List ℕ
 sets_finished before t = sets_upon before t.answer t.state
-
--- the numbers with another late task, and with another count and less that remains
-abbrev pub stopped_numbers : ℕ → List ℕ → List ℕ
-stopped_numbers task numbers = get_or numbers 0 0 ∷ get_or numbers 1 0 ∷ get_or numbers 2 0 ∷ get_or numbers 3 0 ∷ task ∷ []
-
-abbrev pub idled_numbers : ℕ → ℕ → List ℕ → List ℕ
-idled_numbers count left numbers = count ∷ left ∷ get_or numbers 2 0 ∷ get_or numbers 3 0 ∷ get_or numbers 4 0 ∷ []

@@ -1,3 +1,4 @@
 pub mod States
 pub mod Lent
 pub mod Fitting
+pub mod Edges

@@ -1,21 +1,22 @@
 -- What the code's records stand for: the machine's state is where it stands, with its ports and the results aside.
-use Rattle.std.specs.Prelude.{ℕ, ◌<◌, ◌≡◌, Bool, true, false, ◌&&◌, not, get_or, ltb, eqb, List, []}
+use Rattle.std.specs.Prelude.{ℕ, ◌<◌, ◌≡◌, Bool, true, false, ◌&&◌, not, get_or, ltb, eqb, List, [], Ok, Err}
 use Rattle.std.proofs.Math.Path.{refl, ap}
 use Rattle.std.proofs.Common.{sym, ◌∙◌, ltb-true}
 use Rattle.std.proofs.Math.Bool.{cond}
 use Rattle.model.specs.Clock.{elapsed, Instant, early, due, missed, judged, fits}
 use Rattle.machine.specs.declared.Reaction.{Reaction}
 use Rattle.machine.specs.declared.Reaction.TheVariants as R
-use Rattle.machine.specs.declared.Turn.{Turn}
-use Rattle.machine.specs.declared.Finishing.{Finishing}
+use Rattle.machine.specs.Told.{Turn, Finishing}
 use Rattle.machine.specs.Boards.{Board}
 use Rattle.machine.specs.Instructions.{late, wild, astray, clash, Res, ok, bad, Halt, Run}
 use Rattle.machine.specs.Store.{Store, part, reaction}
 use Rattle.machine.specs.Calls as C
 use Rattle.machine.specs.Calls.{State, stopped_by, came_to, sensed, reacted, by_instant, tick, finish, at_work}
 use Rattle.machine.proofs.CallLaws.{tick-by}
-use Rattle.steps.specs.declared.Ending.{Ending}
-use Rattle.steps.specs.declared.Ending.TheVariants as E
+use Rattle.steps.specs.declared.Fault.TheVariants as F
+use Rattle.steps.specs.declared.programs.Program.{Program}
+use Rattle.steps.specs.declared.Fault.{Fault}
+use Rattle.steps.specs.Steps.{Ending, number_of}
 use Rattle.steps.specs.Rows.{board_by, reactive}
 use Rattle.react.specs.Runs.{Shown, shown_res, shown}
 use Rattle.calls.specs.declared.Standing.{Standing}
@@ -35,6 +36,55 @@ state_of at ports aside =
       stopped = at.stopped;
       fault = at.fault;
       late = at.late;
+    }
+
+-- what a tick reads of a table, as a board
+abbrev pub board_at : Program → Board
+board_at p = board_by p.instructions p.code.now p.drivers.now p.guards.now p.modes.now p.tasks.now p.types.now [] p.sensors 0
+
+-- no task is out, and nothing remains
+abbrev pub begun : ℕ → ℕ → ℕ → Standing
+begun clock mode pc =
+    record {
+      clock = clock;
+      remaining = 0;
+      mode = mode;
+      pc = pc;
+      out = 0;
+      waiting = 0;
+      finished = 0;
+      stopped = false;
+      fault = 0;
+      late = 0;
+    }
+
+-- what is answered of a fault, and the task that it names
+abbrev pub answer_of : Fault → Reaction
+answer_of (F.Late task) = R.Late task
+answer_of F.Wild = R.Fault 41
+answer_of F.Astray = R.Fault 42
+answer_of F.Clash = R.Fault 43
+
+abbrev pub late_of : Fault → ℕ
+late_of (F.Late task) = task
+late_of F.Wild = 0
+late_of F.Astray = 0
+late_of F.Clash = 0
+
+-- stopped by a fault, all else as it was
+abbrev pub stopped_at : Fault → Standing → Standing
+stopped_at fault at =
+    record {
+      clock = at.clock;
+      remaining = at.remaining;
+      mode = at.mode;
+      pc = at.pc;
+      out = at.out;
+      waiting = at.waiting;
+      finished = at.finished;
+      stopped = true;
+      fault = number_of fault;
+      late = late_of fault;
     }
 
 -- ---- the same in cells that are lent: numbers (clock, remaining, mode, pc, late), marks (stopped, fault) and sets (out, waiting, finished)
@@ -87,23 +137,22 @@ with_ports m ports =
     }
 
 abbrev pub closed_by : State → ℕ → ℕ → List ℕ → Ending → C.Ticked
-closed_by m count steps ports (E.Returned halted) =
+closed_by m count steps ports (Ok halted) =
     record {
       answer = R.Obeyed steps;
       state = record {
         clock = count;
-        remaining = halted.delay;
+        remaining = halted.future.delay;
         mode = halted.mode;
-        pc = halted.next;
-        store = record { ports = ports; out = halted.out; waiting = halted.waiting; finished = halted.finished };
+        pc = halted.future.pc;
+        store = record { ports = ports; out = halted.tasks.out; waiting = halted.tasks.waiting; finished = halted.tasks.finished };
         aside = m.aside;
         stopped = m.stopped;
         fault = m.fault;
         late = m.late;
       };
     }
-closed_by m count steps ports (E.Late task) = record { answer = R.Late task; state = stopped_by 40 task (with_ports m ports) }
-closed_by m count steps ports (E.Fault number) = record { answer = R.Fault number; state = stopped_by number 0 (with_ports m ports) }
+closed_by m count steps ports (Err fault) = record { answer = answer_of fault; state = stopped_by (number_of fault) (late_of fault) (with_ports m ports) }
 
 abbrev pub closed : State → ℕ → Shown → C.Ticked
 closed m count s = closed_by m count s.steps s.ports s.ending
@@ -121,6 +170,19 @@ unfolding reacted
 closes-reaction b m count words =
     let run = reaction b m.aside m.mode m.pc (sensed words m.store) in
     closes-run m count run run.res
+
+-- a fault that is not of a late task names none, and is answered with its number
+pub names-none : (fault : Fault) → ((task : ℕ) → fault ≡ F.Late task → ⊥) → late_of fault ≡ 0
+names-none (F.Late task) other = absurd (other task refl)
+names-none F.Wild other = refl
+names-none F.Astray other = refl
+names-none F.Clash other = refl
+
+pub answers-number : (fault : Fault) → ((task : ℕ) → fault ≡ F.Late task → ⊥) → answer_of fault ≡ R.Fault (number_of fault)
+answers-number (F.Late task) other = absurd (other task refl)
+answers-number F.Wild other = refl
+answers-number F.Astray other = refl
+answers-number F.Clash other = refl
 
 -- ---- a task at work has a number within the room
 first_holds : (a b : Bool) → a && b ≡ true → a ≡ true

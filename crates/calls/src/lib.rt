@@ -1,22 +1,23 @@
-// The machine's calls, over arrays lent from a table and a machine. Where the machine stands is in three of them: numbers (the last accepted count,
-// what remains, the mode, where the next reaction begins, the late task), marks (not 0: stopped; the fault) and sets (the tasks out, waiting, finished).
+// The machine's calls, over a program and arrays lent from a table, and a machine: where it stands, its ports and the results aside.
 // Promises: each call is its definition, for every table and every state: the answer, where the machine then stands, and every cell of the lent arrays.
-// Builds on the calls of machine, on react, bits and cells.
+// Builds on the calls of machine, on react, steps, bits and cells.
 #![tactic(auto)]
 
-ghost use Rattle.std.specs.Prelude.{◌≡◌, List, [], ◌∷◌, ℕ};
+ghost use Rattle.std.specs.Prelude.{◌≡◌, List, [], ℕ};
 ghost use Rattle.model.specs.Clock.{fits as fits_of};
 ghost use Rattle.machine.specs.Store.{part};
 ghost use Rattle.machine.specs.Calls.{reacted, tick, next_task, finish, at_work};
-ghost use Rattle.steps.specs.Rows.{board_by, reactive};
-ghost use Rattle.calls.specs.States.{marked, standing_in, state_by, served, turned, ended};
-ghost use Rattle.calls.specs.Lent.{lent, lent_by, sets_handed, sets_finished, stopped_numbers, idled_numbers};
+ghost use Rattle.steps.specs.Rows.{board_by};
+ghost use Rattle.steps.specs.Steps.{board_of};
+ghost use Rattle.calls.specs.States.{marked, standing_in, state_of, store_of, board_at, served, turned, ended, answer_of, begun, stopped_at};
 ghost use Rattle.calls.specs.Fitting.{fits_one};
 
-use bits::Found;
 use cells::Instant;
-use machine::{Finishing, Reaction, Turn};
-use steps::Ending;
+use file::Refused;
+use machine::Reaction;
+use react::Ran;
+use steps::programs::Program;
+use steps::{Fault, Tasks};
 
 // The last accepted count, what remains, the mode, where the next reaction begins, the words of tasks; whether the machine is stopped, by which fault,
 // and which task was late.
@@ -34,8 +35,58 @@ pub struct Standing {
     pub late: u32,
 }
 
-// Where a machine stands, as one record.
-pub fn standing_in<'a>(numbers: &'a [u32; 5], marks: &'a [u8; 2], sets: &'a [u64; 3]) -> Standing
+impl Standing {
+    // No task is out, and nothing remains.
+    pub fn begin(clock: u32, mode: u32, pc: u32) -> Standing
+        ensures { result ≡ begun clock mode pc }
+    {
+        Standing {
+            clock,
+            remaining: 0,
+            mode,
+            pc,
+            out: 0,
+            waiting: 0,
+            finished: 0,
+            stopped: false,
+            fault: 0,
+            late: 0,
+        }
+    }
+
+    // Stopped by a fault, all else as it was.
+    fn stop(&mut self, fault: Fault) -> Reaction
+        ensures answer { result ≡ answer_of fault }
+        ensures standing { self.new ≡ stopped_at fault self.old }
+    {
+        self.stopped = true;
+        self.fault = fault.number();
+        match fault {
+            Fault::Late(task) => {
+                self.late = task;
+                Reaction::Late(task)
+            }
+            _ => {
+                self.late = 0;
+                Reaction::Fault(self.fault)
+            }
+        }
+    }
+
+    // A task handed out and not finished.
+    fn is_at_work(&self, task: u32) -> bool
+        ensures { (ports : List ℕ) → result ≡ at_work (store_of self.now ports) task }
+    {
+        task < 32
+            && bits::has(self.out, task)
+            && !bits::has(self.waiting, task)
+            && !bits::has(self.finished, task)
+    }
+}
+
+// Where a machine stands that a host holds in three arrays: numbers (the last accepted count, what remains, the mode, where the next reaction begins, the
+// late task), marks (not 0: stopped; the fault) and sets (the tasks out, waiting, finished).
+pub fn standing_in(numbers: &[u32; 5], marks: &[u8; 2], sets: &[u64; 3]) -> Standing
     ensures { result ≡ standing_in numbers.now marks.now sets.now }
 {
     Standing {
@@ -46,16 +97,10 @@ pub fn standing_in<'a>(numbers: &'a [u32; 5], marks: &'a [u8; 2], sets: &'a [u64
         out: bits::word_at(sets, 0),
         waiting: bits::word_at(sets, 1),
         finished: bits::word_at(sets, 2),
-        stopped: is_stopped(marks),
+        stopped: cells::at8(marks, 0) != 0,
         fault: cells::at8(marks, 1),
         late: cells::at32(numbers, 4),
     }
-}
-
-fn is_stopped(marks: &[u8; 2]) -> bool
-    ensures { result ≡ marked marks.now }
-{
-    cells::at8(marks, 0) != 0
 }
 
 // ---- values handed in
@@ -63,269 +108,132 @@ fn is_stopped(marks: &[u8; 2]) -> bool
 fn fits_one(wanted: u32, kind: u32, word: u32) -> bool
     ensures { result ≡ fits_one wanted kind word }
 {
-    if kind == wanted {
-        if kind == 1 {
-            return word <= 1;
-        }
-        return true;
-    }
-    false
+    kind == wanted && (kind != 1 || word <= 1)
 }
 
 // Values are right in number and type: as many types and words as are wanted from a place on, each of the type wanted.
-pub fn fits<'a, 'b>(
-    wanted: &'a [u32],
-    at: u32,
-    count: u32,
-    types: &'b [u32],
-    words: &'b [u32],
-) -> bool
+pub fn fits(wanted: &[u32], at: u32, count: u32, types: &[u32], words: &[u32]) -> bool
     ensures { result ≡ fits_of (part wanted.now at count) types.now words.now }
 {
-    let n = cells::wide32(count);
-    if types.len() != n {
+    let n = count as usize;
+    if types.len() != n || words.len() != n {
         return false;
     }
-    if words.len() != n {
-        return false;
-    }
-    let base = cells::wide32(at);
-    let mut i = 0usize;
-    while i < n {
-        if !fits_one(
-            cells::at32(wanted, base + i),
-            cells::at32(types, i),
-            cells::at32(words, i),
-        ) {
+    for i in 0..n {
+        if !fits_one(cells::at32(wanted, at as usize + i), types[i], words[i]) {
             return false;
         }
-        i += 1;
     }
     true
 }
 
 // ---- start and tick
 
-fn stop(numbers: &mut [u32; 5], marks: &mut [u8; 2], fault: u8, task: u32)
-    ensures numbers { numbers.new ≡ stopped_numbers task numbers.old }
-    ensures marks { marks.new ≡ 1 ∷ fault ∷ [] }
-{
-    let clock = cells::at32(numbers, 0);
-    let remaining = cells::at32(numbers, 1);
-    let mode = cells::at32(numbers, 2);
-    let pc = cells::at32(numbers, 3);
-    *numbers = [clock, remaining, mode, pc, task];
-    *marks = [1, fault];
-}
-
 // Sensors take the readings, then one reaction. A fault stops the machine, all else as before the call.
-pub fn react_on<'a, 'b>(
-    instructions: u32,
-    code: &'a [u32; 12288],
-    drivers: &'a [u32; 3456],
-    guards: &'a [u32; 1536],
-    modes: &'a [u32; 24],
-    tasks: &'a [u32; 128],
-    aside: &'a [u32; 256],
+pub fn react_on(
+    program: &Program,
+    aside: &[u32],
     ports: &mut [u32; 320],
-    numbers: &mut [u32; 5],
-    marks: &mut [u8; 2],
-    sets: &mut [u64; 3],
+    at: &mut Standing,
     count: u32,
-    words: &'b [u32],
+    words: &[u32],
 ) -> Reaction
-    ensures state { served result (state_by numbers.new marks.new sets.new ports.new aside.now)
-        ≡ reacted (reactive instructions code.now drivers.now guards.now modes.now tasks.now)
-        (state_by numbers.old marks.old sets.old ports.old aside.now) count words.now }
-    ensures lent { lent numbers.new marks.new sets.new
-        ≡ lent_by (lent numbers.old marks.old sets.old) (reacted (reactive instructions code.now drivers.now guards.now modes.now tasks.now)
-        (state_by numbers.old marks.old sets.old ports.old aside.now) count words.now) }
+    ensures { served result (state_of at.new ports.new aside.now)
+        ≡ reacted (board_of program.now) (state_of at.old ports.old aside.now) count words.now }
 {
-    let mode = cells::at32(numbers, 2);
-    let pc = cells::at32(numbers, 3);
-    let late = cells::at32(numbers, 4);
-    let out = bits::word_at(sets, 0);
-    let waiting = bits::word_at(sets, 1);
-    let finished = bits::word_at(sets, 2);
-    let ran = react::react(
-        instructions,
-        code,
-        drivers,
-        guards,
-        modes,
-        tasks,
-        aside,
-        words,
-        ports,
-        mode,
-        pc,
-        out,
-        waiting,
-        finished,
-    );
-    let ending = ran.ending;
-    match ending {
-        Ending::Returned(halted) => {
-            *numbers = [count, halted.delay, halted.mode, halted.next, late];
-            *sets = [halted.out, halted.waiting, halted.finished];
-            Reaction::Obeyed(ran.steps)
+    let tasks = Tasks {
+        out: at.out,
+        waiting: at.waiting,
+        finished: at.finished,
+    };
+    match react::react(program, aside, words, ports, at.mode, at.pc, tasks) {
+        Ok(Ran { halted, steps }) => {
+            at.clock = count;
+            at.remaining = halted.future.delay;
+            at.mode = halted.mode;
+            at.pc = halted.future.pc;
+            at.out = halted.tasks.out;
+            at.waiting = halted.tasks.waiting;
+            at.finished = halted.tasks.finished;
+            Reaction::Obeyed(steps)
         }
-        Ending::Late(task) => {
-            stop(numbers, marks, 40, task);
-            Reaction::Late(task)
-        }
-        Ending::Fault(number) => {
-            stop(numbers, marks, number, 0);
-            Reaction::Fault(number)
-        }
+        Err(fault) => at.stop(fault),
     }
 }
 
-// The count is accepted, and less remains.
-fn idle(numbers: &mut [u32; 5], count: u32, left: u32)
-    ensures { numbers.new ≡ idled_numbers count left numbers.old }
-{
-    let mode = cells::at32(numbers, 2);
-    let pc = cells::at32(numbers, 3);
-    let late = cells::at32(numbers, 4);
-    *numbers = [count, left, mode, pc, late];
-}
-
-// Tick: 31 machine stopped; 32 readings of wrong count or type; 33 instant missed. Less than what remains: idle. Equal: one reaction.
-pub fn tick_on<'a, 'b>(
-    instructions: u32,
-    code: &'a [u32; 12288],
-    drivers: &'a [u32; 3456],
-    guards: &'a [u32; 1536],
-    modes: &'a [u32; 24],
-    tasks: &'a [u32; 128],
-    wanted: &'a [u32; 320],
-    sensors: u32,
-    aside: &'a [u32; 256],
+// Tick: 31 machine stopped; 32 readings of wrong count or type; 33 instant missed. Less than what remains: idle, the count is accepted and less remains.
+// Equal: one reaction.
+pub fn tick_on(
+    program: &Program,
+    aside: &[u32],
     ports: &mut [u32; 320],
-    numbers: &mut [u32; 5],
-    marks: &mut [u8; 2],
-    sets: &mut [u64; 3],
+    at: &mut Standing,
     count: u32,
-    types: &'b [u32],
-    words: &'b [u32],
+    types: &[u32],
+    words: &[u32],
 ) -> Reaction
-    ensures state { served result (state_by numbers.new marks.new sets.new ports.new aside.now)
-        ≡ tick (board_by instructions code.now drivers.now guards.now modes.now tasks.now wanted.now [] sensors 0)
-        (state_by numbers.old marks.old sets.old ports.old aside.now) count types.now words.now }
-    ensures lent { lent numbers.new marks.new sets.new
-        ≡ lent_by (lent numbers.old marks.old sets.old) (tick (board_by instructions code.now drivers.now guards.now modes.now tasks.now wanted.now [] sensors 0)
-        (state_by numbers.old marks.old sets.old ports.old aside.now) count types.now words.now) }
+    ensures { served result (state_of at.new ports.new aside.now)
+        ≡ tick (board_at program.now) (state_of at.old ports.old aside.now) count types.now words.now }
 {
-    if is_stopped(marks) {
+    if at.stopped {
         return Reaction::Refused(31);
     }
-    if !fits(wanted, 0, sensors, types, words) {
+    if !fits(program.types, 0, program.sensors, types, words) {
         return Reaction::Refused(32);
     }
-    let clock = cells::at32(numbers, 0);
-    let remaining = cells::at32(numbers, 1);
-    let instant = cells::judge(clock, remaining, count);
-    match instant {
+    match cells::judge(at.clock, at.remaining, count) {
         Instant::Early(left) => {
-            idle(numbers, count, left);
+            at.clock = count;
+            at.remaining = left;
             Reaction::Idle
         }
-        Instant::Due => react_on(
-            instructions,
-            code,
-            drivers,
-            guards,
-            modes,
-            tasks,
-            aside,
-            ports,
-            numbers,
-            marks,
-            sets,
-            count,
-            words,
-        ),
+        Instant::Due => react_on(program, aside, ports, at, count, words),
         Instant::Missed => Reaction::Refused(33),
     }
 }
 
 // ---- next task: the lowest-numbered one released and not yet handed out, or none
 
-pub fn next_on(marks: &[u8; 2], sets: &mut [u64; 3]) -> Turn
-    ensures state { (numbers ports aside : List ℕ) → turned result (state_by numbers marks.now sets.new ports aside)
-        ≡ next_task (state_by numbers marks.now sets.old ports aside) }
-    ensures sets { (numbers ports aside : List ℕ) → sets.new
-        ≡ sets_handed sets.old (next_task (state_by numbers marks.now sets.old ports aside)) }
+pub fn next_on(at: &mut Standing) -> Result<Option<u32>, Refused>
+    ensures { (ports aside : List ℕ) → turned result (state_of at.new ports aside) ≡ next_task (state_of at.old ports aside) }
 {
-    if is_stopped(marks) {
-        return Turn::Refused(31);
+    if at.stopped {
+        return Err(Refused { number: 31 });
     }
-    let out = bits::word_at(sets, 0);
-    let waiting = bits::word_at(sets, 1);
-    let finished = bits::word_at(sets, 2);
-    let found = bits::lowest(waiting);
-    match found {
-        Found::Task(task) => {
-            let others = bits::part(waiting, task);
-            *sets = [out, others, finished];
-            Turn::Task(task)
-        }
-        Found::Nobody => Turn::Nobody,
-    }
+    let Some(task) = bits::lowest(at.waiting) else {
+        return Ok(None);
+    };
+    at.waiting = bits::part(at.waiting, task);
+    Ok(Some(task))
 }
 
 // ---- finish: 31; 34 task not handed out or already finished; 35 results of wrong count or type
 
-// Handed out and not finished.
-fn at_work(out: u64, waiting: u64, finished: u64, task: u32) -> bool
-    ensures { (ports : List ℕ) → result ≡ at_work (record { ports = ports; out = out; waiting = waiting; finished = finished }) task }
-{
-    if task < 32 {
-        if bits::has(out, task) {
-            if bits::has(waiting, task) {
-                return false;
-            }
-            return !bits::has(finished, task);
-        }
-    }
-    false
-}
-
 // The results go aside and nowhere else.
-pub fn finish_on<'a, 'b>(
-    tasks: &'a [u32; 128],
-    wanted: &'a [u32; 320],
+pub fn finish_on(
+    tasks: &[u32],
+    wanted: &[u32],
     aside: &mut [u32; 256],
-    marks: &'a [u8; 2],
-    sets: &mut [u64; 3],
+    at: &mut Standing,
     task: u32,
-    types: &'b [u32],
-    words: &'b [u32],
-) -> Finishing
-    ensures state { (numbers ports : List ℕ) → ended result (state_by numbers marks.now sets.new ports aside.new)
-        ≡ finish (board_by 0 [] [] [] [] tasks.now wanted.now [] 0 0) (state_by numbers marks.now sets.old ports aside.old)
-        task types.now words.now }
-    ensures sets { (numbers ports : List ℕ) → sets.new
-        ≡ sets_finished sets.old (finish (board_by 0 [] [] [] [] tasks.now wanted.now [] 0 0) (state_by numbers marks.now sets.old ports aside.old)
-        task types.now words.now) }
+    types: &[u32],
+    words: &[u32],
+) -> Result<(), Refused>
+    ensures { (ports : List ℕ) → ended result (state_of at.new ports aside.new)
+        ≡ finish (board_by 0 [] [] [] [] tasks.now wanted.now [] 0 0) (state_of at.old ports aside.old) task types.now words.now }
 {
-    if is_stopped(marks) {
-        return Finishing::Refused(31);
+    if at.stopped {
+        return Err(Refused { number: 31 });
     }
-    let out = bits::word_at(sets, 0);
-    let waiting = bits::word_at(sets, 1);
-    let finished = bits::word_at(sets, 2);
-    if !at_work(out, waiting, finished, task) {
-        return Finishing::Refused(34);
+    if !at.is_at_work(task) {
+        return Err(Refused { number: 34 });
     }
     let from = steps::task_cell(tasks, task, 2);
     let count = steps::task_cell(tasks, task, 3);
     if !fits(wanted, from, count, types, words) {
-        return Finishing::Refused(35);
+        return Err(Refused { number: 35 });
     }
     steps::place(words, task * 8, aside);
-    let joined = bits::join(finished, task);
-    *sets = [out, waiting, joined];
-    Finishing::Taken
+    at.finished = bits::join(at.finished, task);
+    Ok(())
 }

@@ -3,33 +3,30 @@
 // Builds on code generation (emit) and on the layout of tables.
 #![tactic(auto)]
 
-ghost use Rattle.std.specs.Prelude.{◌≡◌, length};
+ghost use Rattle.std.specs.Prelude.{◌≡◌};
 ghost use Rattle.coding.specs.Codings.{begun_from, Coded};
 
 // Where the code of each mode begins, put into the last cell of the mode's row.
 fn begin_places(begins: &[u32], mode_rows: &mut [u32])
-    requires { length begins.now ≡ 8 }
     ensures { mode_rows.new ≡ begun_from mode_rows.old 0 begins.now }
 {
-    let mut k = 0;
-    while k < 8 {
-        cells::put32(mode_rows, k * 3 + 2, begins[k]);
-        k += 1;
+    for (k, begin) in begins.iter().enumerate() {
+        cells::put32(mode_rows, k * 3 + 2, *begin);
     }
 }
 
 // The code of n modes, which stand in rows with their activities, of a module with so many tasks; how many instructions it has.
-pub fn coded<'a>(
-    modes: &'a [u32],
+pub fn coded(
+    modes: &[u32],
     n: u32,
-    acts: &'a [u32],
+    acts: &[u32],
     tasks: u32,
     code: &mut [u32],
     mode_rows: &mut [u32],
 ) -> usize
     ensures { Coded modes.now acts.now n tasks code.old mode_rows.old code.new mode_rows.new result }
 {
-    let mut begins = [0u32; 8];
+    let mut begins = [0; 8];
     let count = emit::generate(modes, n, acts, tasks, code, &mut begins);
     begin_places(&begins, mode_rows);
     count

@@ -3,89 +3,62 @@
 // Builds on lines, and on the product's own calls.
 #![tactic(auto)]
 
-ghost use Rattle.std.specs.Prelude.{◌≤◌, length, ◌≡◌};
-
-use docks::Dock;
-use input::Place;
+use asking::Request;
+use emachine::Machine;
+use lines::input::{Found, Lines};
 use std::io;
 use std::io::{Read, Write};
 
+mod answers;
 mod asking;
 mod docks;
 mod files;
-mod input;
-mod looks;
-mod phrases;
 
 // Room for the longest line, the longest file and the longest answer.
-pub fn room() -> [u8; 262144]
-    ensures { 262144 ≡ length result }
-{
-    [0u8; 262144]
-}
+const ROOM: usize = 262144;
 
-pub fn least(many: usize, room: usize) -> usize
-    ensures { result ≤ room }
-{
-    if many < room {
-        return many;
-    }
-    room
-}
-
-// The first of a list, as many as were given.
-fn given_bytes(list: &[u8], many: usize) -> &[u8] {
-    let end = least(many, list.len());
-    &list[0..end]
-}
-
-fn given_values(list: &[u32], many: usize) -> &[u32] {
-    let end = least(many, list.len());
-    &list[0..end]
-}
-
-// The answer to a line, and the dock behind it.
-fn reply(output: &mut impl Write, buffer: &[u8], place: Place, dock: Dock) -> io::Result<Dock> {
+// The answer to a line; a machine, if one is started.
+fn reply(output: &mut impl Write, line: &[u8], machine: &mut Option<Machine>) -> io::Result<()> {
     let mut bytes = [0u8; 100000];
     let mut types = [0u32; 33];
     let mut words = [0u32; 33];
-    let request = asking::asked(buffer, place, &mut bytes, &mut types, &mut words);
-    if request.kind < 3 {
-        files::answer(output, request, given_bytes(&bytes, request.size))?;
-        return Ok(dock);
+    match asking::parsed(line, &mut bytes, &mut types, &mut words) {
+        None => writeln!(output, "error"),
+        Some(Request::Compile { text, room }) => files::compile(output, text, room),
+        Some(Request::Read { file }) => files::read(output, file),
+        Some(
+            Request::Start {
+                file,
+                count,
+                readings,
+            },
+        ) => {
+            *machine = docks::start(output, file, count, readings)?;
+            Ok(())
+        }
+        Some(Request::Call(call)) => match machine {
+            Some(machine) => docks::call(output, call, machine),
+            None => writeln!(output, "none"),
+        },
     }
-    docks::answer(
-        output,
-        request,
-        given_bytes(&bytes, request.size),
-        given_values(&types, request.many),
-        given_values(&words, request.many),
-        dock,
-    )
 }
 
 // A line after the other, until the input ends.
 fn run(input: &mut impl Read, output: &mut impl Write, buffer: &mut [u8]) -> io::Result<()> {
-    let mut place = input::held(0, false);
-    let mut dock = docks::none();
-    let mut turns = u64::MAX;
-    while turns > 0 {
-        turns -= 1;
-        place = input::next(input, buffer, place);
-        if place.found == 2 {
-            return Ok(());
+    let mut lines = Lines::new(buffer);
+    let mut machine = None;
+    for _ in 0..u64::MAX {
+        match lines.next(input) {
+            Found::Line(line) => reply(output, line, &mut machine)?,
+            Found::Long => writeln!(output, "error")?,
+            Found::End => return Ok(()),
         }
-        if place.found == 1 {
-            dock = reply(output, buffer, place, dock)?;
-            output.flush()?;
-        }
+        output.flush()?;
     }
     Ok(())
 }
 
 fn main(rt: HostRuntime) -> io::Result<()> {
-    let mut input = rt.stdin();
-    let mut output = rt.stdout();
-    let mut buffer = room();
-    run(&mut input, &mut output, &mut buffer)
+    let mut buffer = [0u8; ROOM];
+    run(&mut rt.stdin(), &mut rt.stdout(), &mut buffer)
 }

@@ -2,12 +2,9 @@
 use Rattle.std.specs.Prelude.{ℕ, ◌+◌, ◌≡◌, refl, List, [], ◌∷◌, map, length, set, replicate}
 use Rattle.std.proofs.Common.{add-zero, arith, ap, ◌∙◌}
 use Rattle.std.proofs.lemmas.List.{length-map, length-replicate, replicate-append-replicate}
-use Rattle.codec.specs.Codecs.{Codec}
 use Rattle.model.specs.Modules.{Task}
 use Rattle.file.specs.References.{task_roles}
 use Rattle.layout.specs.Filling.{stored, fill, stored-both, stored_more}
-use Rattle.fields.specs.Taking.{at, Takes}
-use Rattle.fields.specs.TakingLaws.{takes-lens}
 use Rattle.fields.specs.CellLaws.{fill-cells}
 use Rattle.declarations.specs.Stores.{Ported, store_input}
 
@@ -15,15 +12,6 @@ use Rattle.declarations.specs.Stores.{Ported, store_input}
 
 abbrev pub ported : List ℕ → List ℕ → List ℕ → Ported
 ported names types starts = record { names = names; types = types; starts = starts }
-
-module _ {A : Type 0} {s : List ℕ} {c : Codec A} {bad next bad' next' : ℕ} {names types starts x : List ℕ} {part : A → List ℕ → List ℕ} where
-  pub in-names : Takes s c part (at bad next names) (at bad' next' x)
-      → Takes s c (λ a l. ported (part a l.names) l.types l.starts) (at bad next (ported names types starts)) (at bad' next' (ported x types starts))
-  in-names t = takes-lens (λ l. l.names) (λ z l. ported z l.types l.starts) refl refl t
-
-  pub in-types : Takes s c part (at bad next types) (at bad' next' x)
-      → Takes s c (λ a l. ported l.names (part a l.types) l.starts) (at bad next (ported names types starts)) (at bad' next' (ported names x starts))
-  in-types t = takes-lens (λ l. l.types) (λ z l. ported l.names z l.starts) refl refl t
 
 pub fill-inputs : (first : ℕ) (xs l : List ℕ) → fill (store_input first) 0 xs l ≡ stored l first xs
 unfolding store_input

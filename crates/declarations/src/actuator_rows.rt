@@ -1,59 +1,50 @@
 // The actuators, and what they hold at the beginning.
-ghost use Rattle.std.specs.Prelude.{◌≤◌, ◌<◌, ◌^◌};
+ghost use Rattle.std.specs.Prelude.{◌≤◌, ◌<◌, ◌^◌, IfOk};
+ghost use Rattle.codec.specs.Readings.{got};
 ghost use Rattle.file.specs.Records.{actuator as actuator_of, actuators as actuators_of};
-ghost use Rattle.fields.specs.Taking.{at, Takes, counted};
+ghost use Rattle.fields.specs.Outcomes.{outcome};
+ghost use Rattle.fields.specs.Taking.{Takes, counted};
 ghost use Rattle.declarations.specs.Stores.{store_actuator};
 
-use fields::{Counted, Got};
+use fields::{Cursor, put_name};
+use file::Refused;
 
+#[tactic(auto, unfolding(codec::specs::Sequences::dep, codec::specs::Sequences::dep_get, codec::specs::Views::shape, codec::specs::Views::view, codec::specs::Views::view_get, fields::specs::Taking::taken, file::specs::Records::actuator, crate::specs::Stores::store_actuator))]
 fn actuator(
-    s: &[u8],
-    bad: u8,
-    next: usize,
+    file: &mut Cursor,
     from: usize,
     k: usize,
     names: &mut [u8],
     types: &mut [u32],
     starts: &mut [u32],
-) -> Got
+) -> Result<(), Refused>
     requires { (from < 2 ^ 32) × (k < 65536) }
-    ensures { Takes s.now actuator_of (store_actuator from k) (at bad next (record { names = names.entry.now; types = types.old; starts = starts.old })) (at result.bad result.next (record { names = names.exit.now; types = types.new; starts = starts.new })) }
+    ensures { Takes actuator_of (store_actuator from k) (got (record { names = names.old; types = types.old; starts = starts.old }) file.old.rest.now) (outcome (λ u. record { names = names.new; types = types.new; starts = starts.new }) result file.new.rest.now) }
 {
-    let a = fields::name(s, bad, next, k * 66, names);
-    let t = fields::kind(s, a.bad, a.next);
-    let v = fields::value(s, t.bad, t.next, t.value);
-    cells::put32(types, from + k, t.value);
-    cells::put32(starts, from + k, v.value);
-    fields::name(s, v.bad, v.next, k * 66 + 33, names)
+    let name = file.name()?;
+    let kind = file.kind()?;
+    let start = file.value(kind)?;
+    let setter = file.name()?;
+    put_name(names, k * 66, name);
+    put_name(names, k * 66 + 33, setter);
+    cells::put32(types, from + k, kind);
+    cells::put32(starts, from + k, start);
+    Ok(())
 }
 
 pub fn actuators(
-    s: &[u8],
-    bad: u8,
-    next: usize,
+    file: &mut Cursor,
     from: u32,
     names: &mut [u8],
     types: &mut [u32],
     starts: &mut [u32],
-) -> Counted
-    ensures takes { Takes s.now actuators_of (counted (store_actuator from)) (at bad next (0, record { names = names.entry.now; types = types.old; starts = starts.old })) (at result.bad result.next (result.count, record { names = names.exit.now; types = types.new; starts = starts.new })) }
-    ensures count_bound { result.count ≤ 32 }
+) -> Result<u32, Refused>
+    ensures takes { Takes actuators_of (counted (store_actuator from)) (got (0, record { names = names.old; types = types.old; starts = starts.old }) file.old.rest.now) (outcome (λ n. (n, record { names = names.new; types = types.new; starts = starts.new })) result file.new.rest.now) }
+    ensures count_bound { IfOk result (λ n. n ≤ 32) }
 {
-    let n = fields::count(s, bad, next, 32);
-    let many = cells::wide32(n.value);
-    let first = cells::wide32(from);
-    let mut g = Got {
-        bad: n.bad,
-        next: n.next,
-    };
-    let mut k = 0;
-    while k < many {
-        g = actuator(s, g.bad, g.next, first, k, names, types, starts);
-        k += 1;
+    let count = file.count(32)?;
+    for k in 0..count as usize {
+        actuator(file, from as usize, k, names, types, starts)?;
     }
-    Counted {
-        bad: g.bad,
-        next: g.next,
-        count: n.value,
-    }
+    Ok(count)
 }

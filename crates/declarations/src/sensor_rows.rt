@@ -1,39 +1,35 @@
 // The sensors.
-ghost use Rattle.std.specs.Prelude.{◌≤◌, ◌<◌};
+ghost use Rattle.std.specs.Prelude.{◌≤◌, ◌<◌, IfOk};
+ghost use Rattle.codec.specs.Readings.{got};
 ghost use Rattle.file.specs.Records.{sensor as sensor_of, sensors as sensors_of};
-ghost use Rattle.fields.specs.Taking.{at, Takes, counted};
+ghost use Rattle.fields.specs.Outcomes.{outcome};
+ghost use Rattle.fields.specs.Taking.{Takes, counted};
 ghost use Rattle.declarations.specs.Stores.{store_sensor};
 
-use fields::{Counted, Got};
+use fields::{Cursor, put_name};
+use file::Refused;
 
-fn sensor(s: &[u8], bad: u8, next: usize, k: usize, names: &mut [u8], types: &mut [u32]) -> Got
+#[tactic(auto, unfolding(file::specs::Records::sensor, codec::specs::Sequences::dep, codec::specs::Sequences::dep_get, codec::specs::Views::shape, codec::specs::Views::view, codec::specs::Views::view_get, fields::specs::Taking::taken, crate::specs::Stores::store_sensor))]
+fn sensor(file: &mut Cursor, k: usize, names: &mut [u8], types: &mut [u32]) -> Result<(), Refused>
     requires { k < 65536 }
-    ensures { Takes s.now sensor_of (store_sensor k) (at bad next (names.old, types.old)) (at result.bad result.next (names.new, types.new)) }
+    ensures { Takes sensor_of (store_sensor k) (got (names.old, types.old) file.old.rest.now) (outcome (λ u. (names.new, types.new)) result file.new.rest.now) }
 {
-    let a = fields::name(s, bad, next, k * 66, names);
-    let t = fields::kind(s, a.bad, a.next);
-    cells::put32(types, k, t.value);
-    fields::name(s, t.bad, t.next, k * 66 + 33, names)
+    let name = file.name()?;
+    let kind = file.kind()?;
+    let getter = file.name()?;
+    put_name(names, k * 66, name);
+    put_name(names, k * 66 + 33, getter);
+    cells::put32(types, k, kind);
+    Ok(())
 }
 
-pub fn sensors(s: &[u8], bad: u8, next: usize, names: &mut [u8], types: &mut [u32]) -> Counted
-    ensures takes { Takes s.now sensors_of (counted store_sensor) (at bad next (0, (names.old, types.old))) (at result.bad result.next (result.count, (names.new, types.new))) }
-    ensures count_bound { result.count ≤ 32 }
+pub fn sensors(file: &mut Cursor, names: &mut [u8], types: &mut [u32]) -> Result<u32, Refused>
+    ensures takes { Takes sensors_of (counted store_sensor) (got (0, (names.old, types.old)) file.old.rest.now) (outcome (λ n. (n, (names.new, types.new))) result file.new.rest.now) }
+    ensures count_bound { IfOk result (λ n. n ≤ 32) }
 {
-    let n = fields::count(s, bad, next, 32);
-    let many = cells::wide32(n.value);
-    let mut g = Got {
-        bad: n.bad,
-        next: n.next,
-    };
-    let mut k = 0;
-    while k < many {
-        g = sensor(s, g.bad, g.next, k, names, types);
-        k += 1;
+    let count = file.count(32)?;
+    for k in 0..count as usize {
+        sensor(file, k, names, types)?;
     }
-    Counted {
-        bad: g.bad,
-        next: g.next,
-        count: n.value,
-    }
+    Ok(count)
 }

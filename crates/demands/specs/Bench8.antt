@@ -18,7 +18,7 @@ use Rattle.machine.specs.Asks.{Ask, tick, next, finish, Answer}
 use Rattle.emachine.specs.declared.Machine.{Machine}
 use Rattle.refusals.specs.Reading.{read_items, answer_by, module_by}
 use Rattle.text.specs.Items.{refused_in}
-use Rattle.prescribed.specs.declared.Compiled.TheVariants.{Written}
+use Rattle.prescribed.specs.Compiled.{Written}
 use Rattle.prescribed.specs.Compiles.{Compiling, file, refused, file_of, compile_of}
 use Rattle.prescribed.specs.Answers.{answered, buffered}
 use Rattle.file.specs.Opened.{opened}

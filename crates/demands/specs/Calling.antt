@@ -1,22 +1,18 @@
 -- Demand 1: one answer to each call, by document 01's numbers alone; what refusals and faults leave.
-use Rattle.std.specs.Prelude.{ℕ, ◌≤◌, ◌≡◌, refl, ◌⊎◌, Bool, true, false, cond, ◌&&◌, List, [], ◌∷◌, ◌++◌, length, drop, eqb, leb}
-use Rattle.std.proofs.Common.{arith, sym, ◌∙◌, ap, subst, inl, inr, eqb-true}
+use Rattle.std.specs.Prelude.{Result, Ok, Err, Some, None, ℕ, ◌≤◌, ◌≡◌, refl, ◌⊎◌, Bool, true, false, cond, ◌&&◌, List, [], ◌∷◌, ◌++◌, length, drop, eqb, leb}
+use Rattle.std.proofs.Common.{arith, sym, ◌∙◌, ap, ap₂, subst, inl, inr, eqb-true}
 use Rattle.model.specs.Clock.{elapsed, fits}
 use Rattle.file.specs.Files.{decode}
 use Rattle.file.specs.Answers.{read_number, writes, written, write_number}
 use Rattle.file.specs.Bounds.{Between}
 use Rattle.file.proofs.Numbers as Nu
 use Rattle.file.specs.declared.ReadAnswer.TheVariants.{Read}
-use Rattle.file.specs.declared.WriteAnswer.{WriteAnswer}
-use Rattle.file.specs.declared.WriteAnswer.TheVariants as Wr
+use Rattle.file.specs.declared.Refused.{Refused as Refusal}
 use Rattle.timing.specs.SlotLaws.{Each, or_elim}
 use Rattle.machine.specs.Asks.{Ask, tick, next, finish, Answer, ticking, turning, finishing}
 use Rattle.machine.specs.declared.Reaction.{Reaction}
 use Rattle.machine.specs.declared.Reaction.TheVariants.{Obeyed, Idle, Refused, Late, Fault}
-use Rattle.machine.specs.declared.Turn.{Turn}
-use Rattle.machine.specs.declared.Turn.TheVariants as T
-use Rattle.machine.specs.declared.Finishing.{Finishing}
-use Rattle.machine.specs.declared.Finishing.TheVariants as F
+use Rattle.machine.specs.Told.{Turn, Finishing}
 use Rattle.machine.specs.Answers.{Meaning}
 use Rattle.machine.specs.Calls as C
 use Rattle.machine.specs.Calls.{State}
@@ -32,8 +28,9 @@ use Rattle.emachine.specs.declared.Ticked.{Ticked}
 use Rattle.emachine.specs.declared.Handed.{Handed}
 use Rattle.emachine.specs.declared.Finished.{Finished}
 use Rattle.emachine.specs.Machines.{board_in, state_in, machine_of, ticked_on, handed_on, finished_on}
-use Rattle.prescribed.specs.declared.Compiled.{Compiled}
-use Rattle.prescribed.specs.declared.Compiled.TheVariants as W
+use Rattle.refusals.specs.Verdicts.{one-refusal}
+use Rattle.prescribed.specs.Compiled.{Compiled}
+use Rattle.prescribed.specs.Compiled as W
 use Rattle.prescribed.specs.Compiles.{Compiling, file, refused, compile_of}
 use Rattle.prescribed.specs.Answers.{answered, buffered}
 use Rattle.prescribed.specs.Numbers.{Listed}
@@ -59,7 +56,7 @@ compile-one text before =
 pub read_one : (bytes : List ℕ) → One (Reads bytes)
 read_one bytes = record { it = reading_of (decode bytes); meets = refl; once = λ other h. h }
 
-pub write-one : (table : Table) (before : List ℕ) → One {A = WriteAnswer × List ℕ} (λ r. Writes table before r.0 r.1)
+pub write-one : (table : Table) (before : List ℕ) → One {A = Result ℕ Refusal × List ℕ} (λ r. Writes table before r.0 r.1)
 write-one table before =
     record {
       it = (writes (sound_in table) (bytes_of table) before, written (sound_in table) (bytes_of table) before);
@@ -73,8 +70,8 @@ compile-refused text before number at after c = go (compile_of text (length befo
     go : (r : Compiling) → Answers text (length before) r → W.Refused number at ≡ answered r → after ≡ buffered before r → Answers text (length before) (refused number at) × (after ≡ before)
     go (file bytes) h p q = let z : ◌≡◌ {A = ℕ} 0 1 = cc in absurd (omega arith)
     go (refused k t) h p q =
-        let a : refused k t ≡ refused number at = cc in
-        (subst (Answers text (length before)) a h, q)
+        let (a, b) = one-refusal (sym p) in
+        (subst (Answers text (length before)) (ap₂ refused a b) h, q)
 
 -- no other refusal
 pub compile-numbers : (text before : List ℕ) (number at : ℕ) (after : List ℕ) → Compiles text before (W.Refused number at) after → Listed text number at
@@ -83,10 +80,10 @@ compile-numbers text before number at after c = refusal-numbers text (length bef
 pub read-numbers : (bytes : List ℕ) (r : Reading) → Reads bytes r → (r.answer ≡ Read) ⊎ Between 20 24 (read_number r.answer)
 read-numbers bytes r e = subst (λ (x : Reading). (x.answer ≡ Read) ⊎ Between 20 24 (read_number x.answer)) (sym e) (Nu.read-numbers bytes)
 
-pub write-numbers : (table : Table) (before : List ℕ) (answer : WriteAnswer) (after : List ℕ) → Writes table before answer after
-    → (answer ≡ Wr.Wrote (length (bytes_of table))) ⊎ ((write_number answer ≡ 30) ⊎ (write_number answer ≡ 14))
+pub write-numbers : (table : Table) (before : List ℕ) (answer : Result ℕ Refusal) (after : List ℕ) → Writes table before answer after
+    → (answer ≡ Ok (length (bytes_of table))) ⊎ ((write_number answer ≡ 30) ⊎ (write_number answer ≡ 14))
 write-numbers table before answer after w =
-    subst (λ (x : WriteAnswer). (x ≡ Wr.Wrote (length (bytes_of table))) ⊎ ((write_number x ≡ 30) ⊎ (write_number x ≡ 14))) (sym w.answers) (Nu.write-numbers (sound_in table) (bytes_of table) before)
+    subst (λ (x : Result ℕ Refusal). (x ≡ Ok (length (bytes_of table))) ⊎ ((write_number x ≡ 30) ⊎ (write_number x ≡ 14))) (sym w.answers) (Nu.write-numbers (sound_in table) (bytes_of table) before)
 
 -- ---- numbers of a list
 
@@ -153,13 +150,13 @@ module _ (m : Machine) where
   tick-left count (Fault k) s o h = wild k refl (within (41 ∷ 42 ∷ 43 ∷ []) 41 43 k ((omega arith, omega arith), ((omega arith, omega arith), ((omega arith, omega arith), tt))) o) (ap (machine_of m.table) h)
 
   next-left : (x : Turn) (s : State) → NextAnswer x → LeavesNext (state_in m) x s → Left (turning x) (machine_of m.table s)
-  next-left (T.Task task) s o h = fine refl
-  next-left T.Nobody s o h = fine refl
-  next-left (T.Refused k) s o h = refuses k refl (refusal-number (31 ∷ []) k ((omega arith, omega arith), tt) o) (ap (machine_of m.table) h)
+  next-left (Ok (Some task)) s o h = fine refl
+  next-left (Ok None) s o h = fine refl
+  next-left (Err why) s o h = refuses why.number refl (refusal-number (31 ∷ []) why.number ((omega arith, omega arith), tt) o) (ap (machine_of m.table) h)
 
   finish-left : (task : ℕ) (words : List ℕ) (x : Finishing) (s : State) → FinishAnswer x → LeavesFinish (state_in m) task words x s → Left (finishing x) (machine_of m.table s)
-  finish-left task words F.Taken s o h = fine refl
-  finish-left task words (F.Refused k) s o h = refuses k refl (refusal-number (31 ∷ 34 ∷ 35 ∷ []) k ((omega arith, omega arith), ((omega arith, omega arith), ((omega arith, omega arith), tt))) o) (ap (machine_of m.table) h)
+  finish-left task words (Ok _) s o h = fine refl
+  finish-left task words (Err why) s o h = refuses why.number refl (refusal-number (31 ∷ 34 ∷ 35 ∷ []) why.number ((omega arith, omega arith), ((omega arith, omega arith), ((omega arith, omega arith), tt))) o) (ap (machine_of m.table) h)
 
   leaves : (a : Ask) → Left (served a).0 (served a).1
   leaves (tick count types words) =
@@ -249,10 +246,10 @@ module _ (m : Machine) where
 
 -- ---- write
 
-pub write-refused : (table : Table) (before : List ℕ) (answer : WriteAnswer) (after : List ℕ) → Writes table before answer after → (write_number answer ≡ 0 → ⊥) → after ≡ before
+pub write-refused : (table : Table) (before : List ℕ) (answer : Result ℕ Refusal) (after : List ℕ) → Writes table before answer after → (write_number answer ≡ 0 → ⊥) → after ≡ before
 write-refused table before answer after w n = go (sound_in table) (leb (length (bytes_of table)) (length before)) w.answers w.buffer
   where
-    go : (b c : Bool) → answer ≡ cond b (cond c (Wr.Wrote (length (bytes_of table))) (Wr.Refused 14)) (Wr.Refused 30) → after ≡ cond (b && c) (bytes_of table ++ drop (length (bytes_of table)) before) before → after ≡ before
+    go : (b c : Bool) → answer ≡ cond b (cond c (Ok (length (bytes_of table))) (Err (record { number = 14 }))) (Err (record { number = 30 })) → after ≡ cond (b && c) (bytes_of table ++ drop (length (bytes_of table)) before) before → after ≡ before
     go true true p q = absurd (n (ap write_number p))
     go true false p q = q
     go false c p q = q

@@ -1,5 +1,5 @@
 -- Demand 3: what is counted. Instructions by the definition's steps; releases, terminations and tasks out.
-use Rattle.std.specs.Prelude.{ℕ, ◌+◌, refl, Bool, cond, List, [], ◌∷◌, map, length}
+use Rattle.std.specs.Prelude.{ℕ, ◌+◌, refl, Bool, cond, List, [], ◌∷◌, map, length, Some, None, Ok, Err}
 use Rattle.std.proofs.Common.{arith, sym, ◌∙◌, ap, ap₂, subst}
 use Rattle.std.proofs.Math.Path.{◌≡◌}
 use Rattle.std.proofs.Math.Bool.{true, false}
@@ -14,8 +14,6 @@ use Rattle.timing.specs.Docks.{reply_to}
 use Rattle.machine.specs.Asks.{Ask, tick, Answer, ticking, turning, finishing}
 use Rattle.machine.specs.declared.Reaction.{Reaction}
 use Rattle.machine.specs.declared.Reaction.TheVariants.{Obeyed, Idle, Refused, Late, Fault}
-use Rattle.machine.specs.declared.Turn.TheVariants as U
-use Rattle.machine.specs.declared.Finishing.TheVariants as F
 use Rattle.machine.specs.Words.{count_in}
 use Rattle.machine.specs.Boards.{Board, board_of}
 use Rattle.machine.specs.Instructions.{late, wild, astray, clash, Res, ok, bad, Halt, Tally}
@@ -88,11 +86,11 @@ count_same x r n e = go x r e
     go (ticking (Refused k)) r e = ap (λ (y : Reply). if_reacted y n) (held e)
     go (ticking (Late task)) r e = ap (λ (y : Reply). if_reacted y n) (held e)
     go (ticking (Fault k)) r e = let z : ◌≡◌ {A = ℕ} 0 1 = cc in absurd (omega arith)
-    go (turning (U.Task task)) r e = ap (λ (y : Reply). if_reacted y n) (held e)
-    go (turning U.Nobody) r e = ap (λ (y : Reply). if_reacted y n) (held e)
-    go (turning (U.Refused k)) r e = ap (λ (y : Reply). if_reacted y n) (held e)
-    go (finishing F.Taken) r e = ap (λ (y : Reply). if_reacted y n) (held e)
-    go (finishing (F.Refused k)) r e = ap (λ (y : Reply). if_reacted y n) (held e)
+    go (turning (Ok (Some task))) r e = ap (λ (y : Reply). if_reacted y n) (held e)
+    go (turning (Ok None)) r e = ap (λ (y : Reply). if_reacted y n) (held e)
+    go (turning (Err why)) r e = ap (λ (y : Reply). if_reacted y n) (held e)
+    go (finishing (Ok _)) r e = ap (λ (y : Reply). if_reacted y n) (held e)
+    go (finishing (Err why)) r e = ap (λ (y : Reply). if_reacted y n) (held e)
 
 module _ (M : Module) where
   heads : {A : Type 0} {x y : A} {l r : List A} → x ∷ l ≡ y ∷ r → (x ≡ y) × (l ≡ r)

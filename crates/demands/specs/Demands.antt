@@ -1,5 +1,5 @@
 -- The three demands over the code's contracts, one theorem for each sentence. Read Uses and Terms for the words; the proofs stand elsewhere and are cited.
-use Rattle.std.specs.Prelude.{ℕ, suc, ◌+◌, ◌*◌, ◌≤◌, ◌<◌, ◌≡◌, refl, ◌≢◌, ◌⊎◌, Bool, true, false, cond, ◌&&◌, not, List, ◌++◌, map, length, get_or, set, take, drop}
+use Rattle.std.specs.Prelude.{Result, Ok, ℕ, suc, ◌+◌, ◌*◌, ◌≤◌, ◌<◌, ◌≡◌, refl, ◌≢◌, ◌⊎◌, Bool, true, false, cond, ◌&&◌, not, List, ◌++◌, map, length, get_or, set, take, drop}
 use Rattle.std.proofs.Math.Option.{none, some}
 use Rattle.codec.specs.Codecs.{Bytes}
 use Rattle.model.specs.Rooms.{port_room}
@@ -11,8 +11,7 @@ use Rattle.refusals.specs.Texts.{module_of}
 use Rattle.file.specs.Answers.{read_number, write_number}
 use Rattle.file.specs.Bounds.{Between}
 use Rattle.file.specs.declared.ReadAnswer.TheVariants.{Read}
-use Rattle.file.specs.declared.WriteAnswer.{WriteAnswer}
-use Rattle.file.specs.declared.WriteAnswer.TheVariants.{Wrote}
+use Rattle.file.specs.declared.Refused.{Refused as Refusal}
 use Rattle.timing.specs.SlotLaws.{Each}
 use Rattle.timing.specs.Rules.{outputs_of}
 use Rattle.timing.specs.Calls.{ask, replies, reading_types}
@@ -41,8 +40,8 @@ use Rattle.emachine.specs.declared.Ticked.{Ticked}
 use Rattle.emachine.specs.Machines.{board_in, state_in, ticked_on}
 use Rattle.starting.specs.Starting.{Started}
 use Rattle.prescribed.specs.Tables.{table_of}
-use Rattle.prescribed.specs.declared.Compiled.{Compiled}
-use Rattle.prescribed.specs.declared.Compiled.TheVariants as W
+use Rattle.prescribed.specs.Compiled.{Compiled}
+use Rattle.prescribed.specs.Compiled as W
 use Rattle.prescribed.specs.Compiles.{refused, file_of}
 use Rattle.prescribed.specs.Acceptance.{Answers, Accepts}
 use Rattle.prescribed.specs.Numbers.{Listed}
@@ -70,7 +69,7 @@ compile-defined = C.compile-one
 pub read-defined : (bytes : List ℕ) → One (Reads bytes)
 read-defined = C.read_one
 
-pub write-defined : (table : Table) (before : List ℕ) → One {A = WriteAnswer × List ℕ} (λ r. Writes table before r.0 r.1)
+pub write-defined : (table : Table) (before : List ℕ) → One {A = Result ℕ Refusal × List ℕ} (λ r. Writes table before r.0 r.1)
 write-defined = C.write-one
 
 pub sound-defined : (table : Table) → One (Judges table)
@@ -89,8 +88,8 @@ compile-numbers = C.compile-numbers
 pub read-numbers : (bytes : List ℕ) (r : Reading) → Reads bytes r → (r.answer ≡ Read) ⊎ Between 20 24 (read_number r.answer)
 read-numbers = C.read-numbers
 
-pub write-numbers : (table : Table) (before : List ℕ) (answer : WriteAnswer) (after : List ℕ) → Writes table before answer after
-    → (answer ≡ Wrote (length (bytes_of table))) ⊎ ((write_number answer ≡ 30) ⊎ (write_number answer ≡ 14))
+pub write-numbers : (table : Table) (before : List ℕ) (answer : Result ℕ Refusal) (after : List ℕ) → Writes table before answer after
+    → (answer ≡ Ok (length (bytes_of table))) ⊎ ((write_number answer ≡ 30) ⊎ (write_number answer ≡ 14))
 write-numbers = C.write-numbers
 
 -- Nor any other refusal or fault of the machine: start answers 30, 32, 40 to 43, or 0 for none; tick 31 to 33, 40 to 43; next 31; finish 31, 34, 35.
@@ -104,7 +103,7 @@ call-numbers = C.call-numbers
 pub compile-refused : (text before : List ℕ) (number at : ℕ) (after : List ℕ) → Compiles text before (W.Refused number at) after → Answers text (length before) (refused number at) × (after ≡ before)
 compile-refused = C.compile-refused
 
-pub write-refused : (table : Table) (before : List ℕ) (answer : WriteAnswer) (after : List ℕ) → Writes table before answer after → write_number answer ≢ 0 → after ≡ before
+pub write-refused : (table : Table) (before : List ℕ) (answer : Result ℕ Refusal) (after : List ℕ) → Writes table before answer after → write_number answer ≢ 0 → after ≡ before
 write-refused = C.write-refused
 
 -- A refused machine call changes nothing.
@@ -167,12 +166,12 @@ one-file = F.one-file
 pub reads-back : (text before : List ℕ) (size : ℕ) (after : List ℕ) (r : Reading) → Compiles text before (W.Written size) after → Reads (take size after) r → r ≡ record { answer = Read; table = struct_of (table_of (module_of text)) }
 reads-back = F.reads-back
 
-pub reads-written : (table : Table) (before : List ℕ) (size : ℕ) (after : List ℕ) (r : Reading) → Writes table before (Wrote size) after → Reads (take size after) r → r ≡ record { answer = Read; table = table }
+pub reads-written : (table : Table) (before : List ℕ) (size : ℕ) (after : List ℕ) (r : Reading) → Writes table before (Ok size) after → Reads (take size after) r → r ≡ record { answer = Read; table = table }
 reads-written = F.reads-written
 
 -- and writing what was read gives the same bytes.
-pub writes-read : (bytes : List ℕ) (r : Reading) (before : List ℕ) (answer : WriteAnswer) (after : List ℕ) → Bytes bytes → Reads bytes r → r.answer ≡ Read → length bytes ≤ length before → Writes r.table before answer after
-    → (answer ≡ Wrote (length bytes)) × (take (length bytes) after ≡ bytes)
+pub writes-read : (bytes : List ℕ) (r : Reading) (before : List ℕ) (answer : Result ℕ Refusal) (after : List ℕ) → Bytes bytes → Reads bytes r → r.answer ≡ Read → length bytes ≤ length before → Writes r.table before answer after
+    → (answer ≡ Ok (length bytes)) × (take (length bytes) after ≡ bytes)
 writes-read = F.writes-read
 
 -- `sound` tells the tables that the reader can return from all others.

@@ -1,5 +1,5 @@
 -- Each release finished before the tick that ends its slot: no tick ends the slot of a task that is owed.
-use Rattle.std.specs.Prelude.{ℕ, ◌≡◌, refl, ◌⊎◌, Bool, true, false, ◌&&◌, not, List, [], ◌∷◌, eqb}
+use Rattle.std.specs.Prelude.{ℕ, ◌≡◌, refl, ◌⊎◌, Bool, true, false, ◌&&◌, not, List, [], ◌∷◌, eqb, Ok, Err}
 use Rattle.std.proofs.Common.{arith, sym, ◌∙◌, ap, inl, inr, eq-eqb, eqb-true}
 use Rattle.model.specs.Modules.{Module, Act, Call}
 use Rattle.timing.specs.SlotLaws.{Each, or_left, or_right, or_elim}
@@ -11,7 +11,6 @@ use Rattle.timing.specs.Lates.{ending_next}
 use Rattle.timing.specs.Changes.{tasks_of}
 use Rattle.machine.specs.Asks.{Ask, tick, next, finish, Answer, ticking, turning, finishing}
 use Rattle.machine.specs.declared.Reaction.TheVariants.{Obeyed, Idle, Refused, Late, Fault}
-use Rattle.machine.specs.declared.Finishing.TheVariants as F
 use Rattle.demands.specs.Terms.{finishes, Releases, Finishes, Before, FinishedFirst, EachInTime, owing}
 use Rattle.demands.specs.Owed.{Clear, AllClear}
 
@@ -58,13 +57,13 @@ module _ (M : Module) (W : Accepted M) where
       go (ticking (Late task)) h r e = rest (λ z. z) (h j e)
       go (ticking (Fault number)) h r e = rest (λ z. z) (h j e)
       go (turning x) h r e = rest (λ z. z) (h j e)
-      go (finishing F.Taken) h r e = both (owed j) refl (finishes a j) refl e
+      go (finishing (Ok _)) h r e = both (owed j) refl (finishes a j) refl e
         where
           both : (o : Bool) → owed j ≡ o → (f : Bool) → finishes a j ≡ f → (o && not f) ≡ true → next-ones
           both true p false q e = rest (λ z. clash z q) (h j p)
           both true p true q e = clash e refl
           both false p f q e = clash e refl
-      go (finishing (F.Refused number)) h r e = rest (λ z. z) (h j e)
+      go (finishing (Err why)) h r e = rest (λ z. z) (h j e)
 
   clear-here : (a : Ask) (x : Answer) (v : View) (calls : List Ask) (answers : List Answer) (owed : ℕ → Bool) → ((j : ℕ) → owed j ≡ true → Later a x v calls answers j)
       → ((j : ℕ) → Finishes a x j → Before M a v j) → Clear M W a v owed
@@ -84,8 +83,8 @@ module _ (M : Module) (W : Accepted M) where
   no-tick : (a : Ask) (x : Answer) (v : View) (j : ℕ) → Finishes a x j → Before M a v j
   no-tick (tick count types words) (ticking x) v j e = absurd e
   no-tick (tick count types words) (turning x) v j e = absurd e
-  no-tick (tick count types words) (finishing F.Taken) v j e = clash e refl
-  no-tick (tick count types words) (finishing (F.Refused number)) v j e = absurd e
+  no-tick (tick count types words) (finishing (Ok _)) v j e = clash e refl
+  no-tick (tick count types words) (finishing (Err why)) v j e = absurd e
   no-tick next x v j e = tt
   no-tick (finish task types words) x v j e = tt
 
@@ -123,12 +122,12 @@ module _ (M : Module) (W : Accepted M) where
       go (ticking (Late task)) b f = inr (b, f e)
       go (ticking (Fault number)) b f = inr (b, f e)
       go (turning x) b f = inr (b, f e)
-      go (finishing F.Taken) b f = by (finishes a j) refl f
+      go (finishing (Ok _)) b f = by (finishes a j) refl f
         where
           by : (y : Bool) → finishes a j ≡ y → ((owed j && not y) ≡ true → next-ones) → (finishes a j ≡ true) ⊎ (Before M a v j × next-ones)
           by true q f = inl q
           by false q f = inr (b, f (ap (λ (o : Bool). o && true) e))
-      go (finishing (F.Refused number)) b f = inr (b, f e)
+      go (finishing (Err why)) b f = inr (b, f e)
 
   pub clear-in-time : (calls : List Ask) (answers : List Answer) (v : View) (owed : ℕ → Bool) → AllClear M W calls answers v owed → EachInTime M calls answers v
   clear-in-time [] answers v owed c = tt

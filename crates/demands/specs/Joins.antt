@@ -1,5 +1,5 @@
 -- The code's calls, by their contracts, are the definitions' on the module of the text: compile, read, start, and any list of calls.
-use Rattle.std.specs.Prelude.{ℕ, ◌≡◌, Bool, cond, length, get_or, take, drop, eqb}
+use Rattle.std.specs.Prelude.{ℕ, ◌≡◌, Bool, cond, length, get_or, take, drop, eqb, Some, None, Ok, Err}
 use native.Mathlib.Omega.{arith}
 use Rattle.std.proofs.Math.Path.{refl, ap}
 use Rattle.std.proofs.Common.{sym, ◌∙◌, ap₂, subst, take_at, eqb-true}
@@ -20,8 +20,6 @@ use Rattle.timing.specs.Histories.{stop_of}
 use Rattle.machine.specs.Asks.{Ask, tick, next, finish, Answer, ticking, turning, finishing}
 use Rattle.machine.specs.declared.Reaction.{Reaction}
 use Rattle.machine.specs.declared.Reaction.TheVariants.{Obeyed, Idle, Refused, Late, Fault}
-use Rattle.machine.specs.declared.Turn.TheVariants as T
-use Rattle.machine.specs.declared.Finishing.TheVariants as F
 use Rattle.machine.specs.Asks as A
 use Rattle.machine.specs.Boards.{Board}
 use Rattle.machine.specs.Instructions as E
@@ -40,7 +38,7 @@ use Rattle.emachine.specs.declared.Finished.{Finished}
 use Rattle.emachine.specs.Machines.{board_in, machine_of, ticked_on, finished_on}
 use Rattle.boards.specs.Agreement.{board-is}
 use Rattle.prescribed.specs.Tables.{table_of}
-use Rattle.prescribed.specs.declared.Compiled.TheVariants.{Written}
+use Rattle.prescribed.specs.Compiled.{Written}
 use Rattle.prescribed.specs.Compiles.{Compiling, file, refused, compile_of}
 use Rattle.prescribed.specs.Answers.{answered, buffered}
 use Rattle.accepted.specs.Compiled.{compiled-accepted, compiled-aimed, compiled-sound, compiled-reads}
@@ -62,11 +60,11 @@ obeyed-answer (ticking Idle) e = let z : ◌≡◌ {A = ℕ} 0 1 = cc in absurd 
 obeyed-answer (ticking (Refused k)) e = let z : ◌≡◌ {A = ℕ} 0 1 = cc in absurd (omega arith)
 obeyed-answer (ticking (Late task)) e = let z : ◌≡◌ {A = ℕ} 0 1 = cc in absurd (omega arith)
 obeyed-answer (ticking (Fault k)) e = let z : ◌≡◌ {A = ℕ} 0 1 = cc in absurd (omega arith)
-obeyed-answer (turning (T.Task task)) e = let z : ◌≡◌ {A = ℕ} 0 1 = cc in absurd (omega arith)
-obeyed-answer (turning T.Nobody) e = let z : ◌≡◌ {A = ℕ} 0 1 = cc in absurd (omega arith)
-obeyed-answer (turning (T.Refused k)) e = let z : ◌≡◌ {A = ℕ} 0 1 = cc in absurd (omega arith)
-obeyed-answer (finishing F.Taken) e = let z : ◌≡◌ {A = ℕ} 0 1 = cc in absurd (omega arith)
-obeyed-answer (finishing (F.Refused k)) e = let z : ◌≡◌ {A = ℕ} 0 1 = cc in absurd (omega arith)
+obeyed-answer (turning (Ok (Some task))) e = let z : ◌≡◌ {A = ℕ} 0 1 = cc in absurd (omega arith)
+obeyed-answer (turning (Ok None)) e = let z : ◌≡◌ {A = ℕ} 0 1 = cc in absurd (omega arith)
+obeyed-answer (turning (Err why)) e = let z : ◌≡◌ {A = ℕ} 0 1 = cc in absurd (omega arith)
+obeyed-answer (finishing (Ok _)) e = let z : ◌≡◌ {A = ℕ} 0 1 = cc in absurd (omega arith)
+obeyed-answer (finishing (Err why)) e = let z : ◌≡◌ {A = ℕ} 0 1 = cc in absurd (omega arith)
 
 pub obeyed-number : (x : Answer) → reply_to x ≡ some reacted → number x ≡ 0
 obeyed-number x e = let (n, q) = obeyed-answer x e in ap number q

@@ -20,7 +20,7 @@ use Rattle.emachine.specs.Machines.{board_in, ticked_on}
 use Rattle.starting.specs.Starting as S
 use Rattle.starting.specs.Starting.{Started}
 use Rattle.prescribed.specs.Tables.{table_of}
-use Rattle.prescribed.specs.declared.Compiled.TheVariants.{Written}
+use Rattle.prescribed.specs.Compiled.{Written}
 use Rattle.accepted.specs.Compiled.{compiled-accepted, compiled-sound}
 use Rattle.bridge.proofs.Faithful as Fa
 use Rattle.demands.specs.Uses.{Compiles, Runs, Midway, Launch, Launched}

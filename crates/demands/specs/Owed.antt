@@ -1,5 +1,5 @@
 -- A task is owed, by calls and answers, exactly where the rules say that it is out and not finished: in time is `Prompt`.
-use Rattle.std.specs.Prelude.{ℕ, zero, suc, ◌<◌, ◌≡◌, refl, ◌≢◌, Bool, true, false, cond, ◌&&◌, ◌||◌, not, List, [], ◌∷◌, map, length, get_or, set, eqb}
+use Rattle.std.specs.Prelude.{ℕ, zero, suc, ◌<◌, ◌≡◌, refl, ◌≢◌, Bool, true, false, cond, ◌&&◌, ◌||◌, not, List, [], ◌∷◌, map, length, get_or, set, eqb, Some, None, Ok, Err}
 use Rattle.std.proofs.Common.{arith, sym, ◌∙◌, ap, ap₂, subst, get_or-set_same, get_or-set_other, eqb-true}
 use Rattle.std.proofs.Math.Option.{Option, none, some}
 use Rattle.std.proofs.lemmas.Bool.{eqb-false}
@@ -17,8 +17,6 @@ use Rattle.timing.proofs.Counts.{same-many}
 use Rattle.timing.specs.Docks.{reply_to}
 use Rattle.machine.specs.Asks.{Ask, tick, next, finish, Answer, ticking, turning, finishing}
 use Rattle.machine.specs.declared.Reaction.TheVariants.{Obeyed, Idle, Refused, Late, Fault}
-use Rattle.machine.specs.declared.Turn.TheVariants as T
-use Rattle.machine.specs.declared.Finishing.TheVariants as F
 use Rattle.bridge.proofs.ReleasesKept.{grown, begins}
 use Rattle.demands.specs.Terms.{finishes, owing, still_owed, first_owed}
 
@@ -69,7 +67,7 @@ module _ (M : Module) (W : Accepted M) where
           let k = means r (fell task) u m e in
           subst (λ (w : View). owed j ≡ unfinished (get_or w.place.store.tasks j idle)) (sym k.shows) (h j)
       go (ticking (Fault number)) r u e m g j = let z : ◌≡◌ {A = ℕ} 0 1 = cc in absurd (omega arith)
-      go (turning (T.Task task)) r u e m g j =
+      go (turning (Ok (Some task))) r u e m g j =
           let k = means r (given (some task)) u m e in
           let s : unfinished (get_or v.place.store.tasks task idle) ≡ true = ap unfinished k.was in
           let c = changed v.place.store.tasks task running owed (not-idle (get_or v.place.store.tasks task idle) s) h j in
@@ -78,9 +76,9 @@ module _ (M : Module) (W : Accepted M) where
           same : (b : Bool) → eqb j task ≡ b → unfinished (get_or v.place.store.tasks task idle) ≡ true → owed j ≡ cond b true (owed j)
           same true q s = h j ∙ ap (λ (i : ℕ). unfinished (get_or v.place.store.tasks i idle)) (eqb-true j task q) ∙ s
           same false q s = refl
-      go (turning T.Nobody) r u e m g j = stay u (means r (given none) u m e) j
-      go (turning (T.Refused number)) r u e m g j = stay u (means r (refused number) u m e) j
-      go (finishing F.Taken) r u e m g j =
+      go (turning (Ok None)) r u e m g j = stay u (means r (given none) u m e) j
+      go (turning (Err why)) r u e m g j = stay u (means r (refused why.number) u m e) j
+      go (finishing (Ok _)) r u e m g j =
           let k = means r taken u m e in
           let s : unfinished (get_or v.place.store.tasks k.task idle) ≡ true = ap unfinished k.was in
           let c = changed v.place.store.tasks k.task (done k.words) owed (not-idle (get_or v.place.store.tasks k.task idle) s) h j in
@@ -92,7 +90,7 @@ module _ (M : Module) (W : Accepted M) where
           less true false = refl
           less false true = refl
           less false false = refl
-      go (finishing (F.Refused number)) r u e m g j = stay u (means r (refused number) u m e) j
+      go (finishing (Err why)) r u e m g j = stay u (means r (refused why.number) u m e) j
 
   -- ---- over a history
 

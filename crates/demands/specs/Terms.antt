@@ -1,6 +1,6 @@
 -- The words in which demand 3 speaks of a machine, its calls and answers, beside the timing rules (timing, Rules and Calls).
 -- Definitions only; the theorems stand in Demands.
-use Rattle.std.specs.Prelude.{ℕ, ◌+◌, ◌≡◌, ◌⊎◌, Bool, true, false, cond, ◌&&◌, ◌||◌, not, List, [], ◌∷◌, ◌++◌, map, length, get_or, take, eqb}
+use Rattle.std.specs.Prelude.{ℕ, ◌+◌, ◌≡◌, ◌⊎◌, Bool, true, false, cond, ◌&&◌, ◌||◌, not, List, [], ◌∷◌, ◌++◌, map, length, get_or, take, eqb, Ok, Err}
 use Rattle.std.proofs.Math.Option.{Option, none, some}
 use Rattle.model.specs.Modules.{Module, Act, Call, Update}
 use Rattle.timing.specs.Slots.{closing}
@@ -15,7 +15,6 @@ use Rattle.timing.specs.Counts.{ended_out}
 use Rattle.timing.specs.Docks.{reply_to}
 use Rattle.machine.specs.Asks.{Ask, tick, next, finish, Answer, ticking, turning, finishing}
 use Rattle.machine.specs.declared.Reaction.TheVariants.{Obeyed, Idle, Refused, Late, Fault}
-use Rattle.machine.specs.declared.Finishing.TheVariants as F
 use Rattle.machine.specs.Words.{has}
 use Rattle.calls.specs.declared.Standing.{Standing as Where}
 use Rattle.emachine.specs.declared.Machine.{Machine}
@@ -69,8 +68,8 @@ Releases (finishing x) released j = ⊥
 abbrev pub Finishes : Ask → Answer → ℕ → Type 0
 Finishes a (ticking x) j = ⊥
 Finishes a (turning x) j = ⊥
-Finishes a (finishing F.Taken) j = finishes a j ≡ true
-Finishes a (finishing (F.Refused number)) j = ⊥
+Finishes a (finishing (Ok _)) j = finishes a j ≡ true
+Finishes a (finishing (Err why)) j = ⊥
 
 module _ (M : Module) where
   -- not the tick that ends a slot of task j
@@ -107,8 +106,8 @@ owing a (ticking (Refused number)) released owed j = owed j
 owing a (ticking (Late task)) released owed j = owed j
 owing a (ticking (Fault number)) released owed j = owed j
 owing a (turning x) released owed j = owed j
-owing a (finishing F.Taken) released owed j = owed j && not (finishes a j)
-owing a (finishing (F.Refused number)) released owed j = owed j
+owing a (finishing (Ok _)) released owed j = owed j && not (finishes a j)
+owing a (finishing (Err why)) released owed j = owed j
 
 abbrev pub still_owed : Module → List Ask → List Answer → View → (ℕ → Bool) → ℕ → Bool
 still_owed M [] answers v owed = owed

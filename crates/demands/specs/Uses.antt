@@ -1,6 +1,6 @@
 -- A host's use of the toolchain, said by the contracts of the code's functions alone: compile, read, write, start, and any list of calls of a machine.
 -- Definitions only; the words of the timing rules stand in Terms, the theorems in Demands.
-use Rattle.std.specs.Prelude.{ℕ, ◌+◌, ◌≤◌, ◌≡◌, Bool, List, [], ◌∷◌, ◌++◌, length, take}
+use Rattle.std.specs.Prelude.{Result, ℕ, ◌+◌, ◌≤◌, ◌≡◌, Bool, List, [], ◌∷◌, ◌++◌, length, take}
 use Rattle.std.proofs.Math.Option.{Option, none, some}
 use Rattle.codec.specs.Codecs.{Bytes}
 use Rattle.model.specs.Modules.{Module}
@@ -8,7 +8,7 @@ use Rattle.refusals.specs.Texts.{module_of}
 use Rattle.file.specs.Files.{decode}
 use Rattle.file.specs.Answers.{writes, written}
 use Rattle.file.specs.declared.ReadAnswer.TheVariants.{Read}
-use Rattle.file.specs.declared.WriteAnswer.{WriteAnswer}
+use Rattle.file.specs.declared.Refused.{Refused as Refusal}
 use Rattle.timing.specs.Calls.{View, started, comes}
 pub use Rattle.machine.specs.Asks.{means}
 use Rattle.machine.specs.Asks.{Ask, tick, next, finish, Answer, ticking, turning, finishing}
@@ -28,8 +28,8 @@ use Rattle.emachine.specs.declared.Handed.{Handed}
 use Rattle.emachine.specs.declared.Finished.{Finished}
 use Rattle.emachine.specs.Machines.{board_in, state_in, machine_of, ticked_on, handed_on, finished_on}
 use Rattle.starting.specs.Starting.{Started}
-use Rattle.prescribed.specs.declared.Compiled.{Compiled}
-use Rattle.prescribed.specs.declared.Compiled.TheVariants.{Written}
+use Rattle.prescribed.specs.Compiled.{Compiled}
+use Rattle.prescribed.specs.Compiled.{Written}
 use Rattle.prescribed.specs.Tables.{table_of}
 use Rattle.prescribed.specs.Compiles.{compile_of}
 use Rattle.prescribed.specs.Answers.{answered, buffered}
@@ -47,7 +47,7 @@ abbrev pub Reads : List ℕ → Reading → Type 0
 Reads bytes r = r ≡ reading_of (decode bytes)
 
 -- `ecode::write`
-pub record Writes (table : Table) (before : List ℕ) (answer : WriteAnswer) (after : List ℕ) : Type 0 where
+pub record Writes (table : Table) (before : List ℕ) (answer : Result ℕ Refusal) (after : List ℕ) : Type 0 where
   pub answers : answer ≡ writes (sound_in table) (bytes_of table) before
   pub buffer : after ≡ written (sound_in table) (bytes_of table) before
 

@@ -8,7 +8,7 @@ ghost use Rattle.starting.specs.Starting.{Started};
 ghost use Rattle.demands.specs.Uses.{Compiles, Reads, Writes, Judges, Serves, Looks, CountsOut};
 
 use emachine::{Finished, Handed, Machine, Ticked};
-use file::WriteAnswer;
+use file::Refused;
 use prescribed::Compiled;
 use reading::Reading;
 use tables::Table;
@@ -28,17 +28,17 @@ pub fn read(bytes: &[u8]) -> Reading
 }
 
 // The file of a table, to the front of a buffer.
-pub fn write(table: Table, out: &mut [u8]) -> WriteAnswer
+pub fn write(table: Table, out: &mut [u8]) -> Result<usize, Refused>
     ensures { Writes table out.old result out.new }
 {
-    ecode::write(table, out)
+    ecode::write(&table, out)
 }
 
 // Whether the reader can return a table.
 pub fn sound(table: Table) -> bool
     ensures { Judges table result }
 {
-    ecode::sound(table)
+    ecode::sound(&table)
 }
 
 // A start at a count, with the types and words of the readings.

@@ -1,35 +1,17 @@
 -- The front of a buffer in which a file was put together is that file.
 use Prim.Native.Nat.{ℕ, ◌+◌, ◌-◌, ◌%◌, ◌≤◌, ◌<◌, min}
-use Rattle.std.proofs.Common.{add-one, ◌∙◌, length-take, take-suc, take_all, length-take-le, take_at, drop_at}
+use Rattle.std.proofs.Common.{◌∙◌, length-take, length-take-le, take_at, drop_at}
 use native.Mathlib.Omega.{arith}
-use Rattle.std.specs.Prelude.{◌≡◌, refl, get_or, set}
+use Rattle.std.specs.Prelude.{◌≡◌, refl}
 use Rattle.std.proofs.Math.Path.{sym, ap, ap₂}
 use mathlib.Core.List.{List, ◌++◌, append_assoc}
 use Rattle.std.proofs.Math.ListN.{length, take, drop, length-append}
 use Rattle.std.proofs.lemmas.List.Edits.{sets-eq}
 use Rattle.tables.specs.declared.Table.{Table as Plain}
-use Rattle.layout.specs.Filling.{stored, stored_more, length-stored}
-use Rattle.writing.specs.Puts.{stored_cut}
+use Rattle.layout.specs.Filling.{stored, length-stored}
+use Rattle.writing.specs.Puts.{stored_cut, stored-fits}
 use Rattle.writing.specs.Cells.{byte_of, pair_of, quad_of}
 use Rattle.filing.specs.Whole.{body_of, framed, file_of, Filed}
-
--- cells that fit, put in from a place on
-pub stored-fits : (l : List ℕ) (at : ℕ) (cells : List ℕ) → at + length cells ≤ length l → stored l at cells ≡ take at l ++ (cells ++ drop (at + length cells) l)
-unfolding stored
-stored-fits l at cells h = sets-eq cells l at h ∙ append_assoc (take at l) cells (drop (at + length cells) l)
-
--- ---- a list copied to the front of another, cell by cell
-
-pub copy_more : (l from : List ℕ) (k : ℕ) → k < length from → set (stored l 0 (take k from)) k (get_or from k 0) ≡ stored l 0 (take (k + 1) from)
-copy_more l from k h =
-    let e : k ≡ 0 + length (take k from) = omega (arith, length-take-le k from (omega arith)) in
-    ap (λ (i : ℕ). set (stored l 0 (take k from)) i (get_or from k 0)) e ∙ stored_more l 0 (get_or from k 0) (take k from)
-    ∙ ap (stored l 0) (sym (rw add-one (take-suc from k 0 h)))
-
-pub copy-end : (l from : List ℕ) (n : ℕ) → n ≡ length from → length from ≤ length l → stored l 0 (take n from) ≡ from ++ drop (length from) l
-copy-end l from n e h =
-    let z : 0 + length from ≡ length from = omega arith in
-    ap (stored l 0) (take_all n from (omega arith)) ∙ stored-fits l 0 from (omega arith) ∙ ap (λ (k : ℕ). from ++ drop k l) z
 
 -- ---- the file
 
@@ -72,7 +54,6 @@ module _ (before : List ℕ) (t : Plain) (after : List ℕ) (next : ℕ) (filed 
   filed-take = ap (λ (x : List ℕ). take next x) filed-front ∙ take_at (file_of (length before) t) (drop next before) next file-length
 
 -- the file in a buffer that has room for the longest
-pub longest : {before after : List ℕ} {t : Plain} {next : ℕ} → Filed before t after next → length before ≡ 71364 → take (next - 0) after ≡ file_of 71364 t
+pub longest : {before after : List ℕ} {t : Plain} {next : ℕ} → Filed before t after next → length before ≡ 71364 → take next after ≡ file_of 71364 t
 longest {before} {after} {t} {next} filed size =
-    let all : next - 0 ≡ next = omega arith in
-    ap (λ (n : ℕ). take n after) all ∙ filed-take before t after next filed (omega arith) (omega arith) ∙ ap (λ (n : ℕ). file_of n t) size
+    filed-take before t after next filed (omega arith) (omega arith) ∙ ap (λ (n : ℕ). file_of n t) size

@@ -1,5 +1,5 @@
 -- Whether a table of plain arrays is one that the reader can return, and what writing it does.
-use Rattle.std.specs.Prelude.{◌≡◌, refl, Bool, true, false, List, ◌++◌, ℕ, ◌≤◌, ◌<◌, length, take, drop}
+use Rattle.std.specs.Prelude.{Ok, Err, ◌≡◌, refl, Bool, true, false, List, ◌++◌, ℕ, ◌≤◌, ◌<◌, length, take, drop}
 use Rattle.std.proofs.Common.{sym, ap, ◌∙◌, append_assoc, take-append-drop, length-take-le, le-leb, arith}
 use Rattle.std.proofs.lemmas.List.{drop-append-le}
 use Rattle.std.proofs.lemmas.Bool.{lt-leb}
@@ -9,7 +9,6 @@ use Rattle.file.specs.Answers.{writes, written}
 use Rattle.file.proofs.RoundTrips.{decode-encode}
 use Rattle.file.proofs.Returned.{returned-sound}
 use Rattle.file.specs.declared.ReadAnswer.TheVariants.{Read, Refused}
-use Rattle.file.specs.declared.WriteAnswer.TheVariants.{Wrote, Refused as WriteRefused}
 use Rattle.tables.specs.declared.Table.{Table as Plain}
 use Rattle.layout.specs.Plain.{struct_of}
 use Rattle.comparing.specs.Alike.{alike, alike-true, alike_refl}
@@ -75,18 +74,18 @@ holds-sound t h =
 -- ---- what writing answers, case by case
 
 module _ (good : Bool) (file buffer : List ℕ) where
-  pub unsound-refused : good ≡ false → (WriteRefused 30 ≡ writes good file buffer) × (buffer ≡ written good file buffer)
+  pub unsound-refused : good ≡ false → (Err (record { number = 30 }) ≡ writes good file buffer) × (buffer ≡ written good file buffer)
   unsound-refused e = rw e (refl, refl)
 
-  pub short-refused : good ≡ true → length buffer < length file → (WriteRefused 14 ≡ writes good file buffer) × (buffer ≡ written good file buffer)
+  pub short-refused : good ≡ true → length buffer < length file → (Err (record { number = 14 }) ≡ writes good file buffer) × (buffer ≡ written good file buffer)
   short-refused e h = let l = lt-leb (length file) (length buffer) h in rw (e, l) (refl, refl)
 
-  pub wrote : good ≡ true → length file ≤ length buffer → (Wrote (length file) ≡ writes good file buffer) × (file ++ drop (length file) buffer ≡ written good file buffer)
+  pub wrote : good ≡ true → length file ≤ length buffer → (Ok (length file) ≡ writes good file buffer) × (file ++ drop (length file) buffer ≡ written good file buffer)
   wrote e h = let l = le-leb (length file) (length buffer) h in rw (e, l) (refl, refl)
 
 -- a file that was put together in the front of a buffer with room for the longest
 pub in-front : (buffer : List ℕ) {after : List ℕ} {t : Plain} {next : ℕ} → 71364 ≤ length buffer → Filed (take 71364 buffer) t after next
-    → (Wrote next ≡ writes true (bytes_of t) buffer) × (after ++ drop 71364 buffer ≡ written true (bytes_of t) buffer)
+    → (Ok next ≡ writes true (bytes_of t) buffer) × (after ++ drop 71364 buffer ≡ written true (bytes_of t) buffer)
 in-front buffer {after} {t} {next} h filed =
     let before = take 71364 buffer in
     let size : length before ≡ 71364 = length-take-le 71364 buffer h in
@@ -95,7 +94,7 @@ in-front buffer {after} {t} {next} h filed =
     let file = ap (λ (n : ℕ). file_of n t) size in
     let long : length (bytes_of t) ≡ next = ap length (sym file) ∙ file-length before t after next filed (omega arith) (omega arith) in
     let w = wrote true (bytes_of t) buffer refl (omega arith) in (
-      ap Wrote (sym long) ∙ w.0,
+      ap Ok (sym long) ∙ w.0,
       ap (λ (l : List ℕ). l ++ drop 71364 buffer) (filed-front before t after next filed (omega arith) (omega arith) ∙ ap (λ (l : List ℕ). l ++ drop next before) file)
           ∙ append_assoc (bytes_of t) (drop next before) (drop 71364 buffer)
           ∙ ap (λ (l : List ℕ). bytes_of t ++ l) (sym (drop-append-le next before (drop 71364 buffer) (omega arith)) ∙ ap (drop next) (take-append-drop 71364 buffer))

@@ -4,7 +4,7 @@
 // Builds on reading, filing and comparing, and on encoding for the theorem that ties them.
 #![tactic(auto)]
 
-ghost use Rattle.std.specs.Prelude.{◌≡◌, true, ◌++◌, ◌≤◌, length, drop};
+ghost use Rattle.std.specs.Prelude.{◌≡◌, true, length};
 ghost use Rattle.file.specs.Files.{decode};
 ghost use Rattle.file.specs.Answers.{read_number, writes, written as written_to, write_number};
 ghost use Rattle.reading.specs.Readings.{reading_of, number_read};
@@ -12,7 +12,7 @@ ghost use Rattle.ecode.specs.Sound.{bytes_of, back_in, sound_in};
 ghost use Rattle.ecode.specs.Numbers.{number_written};
 ghost use Rattle.ecode.specs.Theorems.{Tells};
 
-use file::{ReadAnswer, WriteAnswer};
+use file::{ReadAnswer, Refused};
 use reading::Reading;
 use tables::Table;
 
@@ -26,84 +26,70 @@ pub fn read(bytes: &[u8]) -> Reading
     reading::read(bytes)
 }
 
-fn reads_back(t: Table, bytes: &[u8]) -> bool
-    ensures { result ≡ back_in t (decode bytes.now) }
+fn reads_back(t: &Table, bytes: &[u8]) -> bool
+    ensures { result ≡ back_in t.now (decode bytes.now) }
 {
     let back = reading::read(bytes);
     let answer = back.answer;
     let ReadAnswer::Read = answer else {
         return false;
     };
-    let table = back.table;
-    comparing::same_tables(table, t)
+    comparing::same_tables(&back.table, t)
 }
 
 // Whether a table, written to a scratch buffer with room for the longest file, is read back as the same.
-fn sound_by(t: Table, scratch: &mut [u8]) -> bool
+fn sound_by(t: &Table, scratch: &mut [u8]) -> bool
     requires { length scratch.old ≡ 71364 }
-    ensures { result ≡ sound_in t }
+    ensures { result ≡ sound_in t.now }
 {
     let n = filing::file(t, scratch);
-    reads_back(t, &scratch[0..n])
+    reads_back(t, &scratch[..n])
 }
 
 // Whether the reader can return a table.
-pub fn sound(t: Table) -> bool
-    ensures value { result ≡ sound_in t }
-    ensures tells { Tells t result }
+pub fn sound(t: &Table) -> bool
+    ensures value { result ≡ sound_in t.now }
+    ensures tells { Tells t.now result }
 {
-    let mut scratch = [0u8; 71364];
-    sound_by(t, &mut scratch)
-}
-
-fn copy(from: &[u8], to: &mut [u8])
-    requires { length from.now ≤ length to.old }
-    ensures { to.new ≡ from.now ++ drop (length from.now) to.old }
-{
-    let n = from.len();
-    let mut k = 0;
-    while k < n {
-        to[k] = from[k];
-        k += 1;
-    }
+    sound_by(t, &mut [0; 71364])
 }
 
 // A file, to the front of a buffer that has room for it.
-pub fn hand(bytes: &[u8], buffer: &mut [u8]) -> WriteAnswer
+pub fn hand(bytes: &[u8], buffer: &mut [u8]) -> Result<usize, Refused>
     ensures { (result ≡ writes true bytes.now buffer.old) × (buffer.new ≡ written_to true bytes.now buffer.old) }
 {
     let n = bytes.len();
     if buffer.len() < n {
-        return WriteAnswer::Refused(14);
+        return Err(Refused { number: 14 });
     }
-    copy(bytes, buffer);
-    WriteAnswer::Wrote(n)
+    buffer[..n].copy_from_slice(bytes);
+    Ok(n)
 }
 
 // What is read back as the same table goes to the buffer, if there is room.
-fn handed(t: Table, bytes: &[u8], buffer: &mut [u8]) -> WriteAnswer
-    ensures { (result ≡ writes (back_in t (decode bytes.now)) bytes.now buffer.old) × (buffer.new ≡ written_to (back_in t (decode bytes.now)) bytes.now buffer.old) }
+fn handed(t: &Table, bytes: &[u8], buffer: &mut [u8]) -> Result<usize, Refused>
+    ensures { (result ≡ writes (back_in t.now (decode bytes.now)) bytes.now buffer.old) × (buffer.new ≡ written_to (back_in t.now (decode bytes.now)) bytes.now buffer.old) }
 {
     if reads_back(t, bytes) {
-        return hand(bytes, buffer);
+        hand(bytes, buffer)
+    } else {
+        Err(Refused { number: 30 })
     }
-    WriteAnswer::Refused(30)
 }
 
 // The file of a table, put together in a scratch buffer with room for the longest, and from there to the front of the buffer.
-fn write_by(t: Table, scratch: &mut [u8], buffer: &mut [u8]) -> WriteAnswer
+fn write_by(t: &Table, scratch: &mut [u8], buffer: &mut [u8]) -> Result<usize, Refused>
     requires { length scratch.old ≡ 71364 }
-    ensures { (result ≡ writes (sound_in t) (bytes_of t) buffer.old) × (buffer.new ≡ written_to (sound_in t) (bytes_of t) buffer.old) }
+    ensures { (result ≡ writes (sound_in t.now) (bytes_of t.now) buffer.old) × (buffer.new ≡ written_to (sound_in t.now) (bytes_of t.now) buffer.old) }
 {
     let n = filing::file(t, scratch);
-    handed(t, &scratch[0..n], buffer)
+    handed(t, &scratch[..n], buffer)
 }
 
 // The file of a table, to the front of a buffer.
-pub fn write(t: Table, buffer: &mut [u8]) -> WriteAnswer
-    ensures answer { (result ≡ writes (sound_in t) (bytes_of t) buffer.old) × (buffer.new ≡ written_to (sound_in t) (bytes_of t) buffer.old) }
-    ensures number { write_number result ≡ number_written (sound_in t) (bytes_of t) buffer.old }
+pub fn write(t: &Table, buffer: &mut [u8]) -> Result<usize, Refused>
+    ensures answer { (result ≡ writes (sound_in t.now) (bytes_of t.now) buffer.old) × (buffer.new ≡ written_to (sound_in t.now) (bytes_of t.now) buffer.old) }
+    ensures number { write_number result ≡ number_written (sound_in t.now) (bytes_of t.now) buffer.old }
 {
-    let mut scratch = [0u8; 71364];
-    write_by(t, &mut scratch, buffer)
+    write_by(t, &mut [0; 71364], buffer)
 }

@@ -3,7 +3,7 @@
 // Builds on ecode.
 #![tactic(auto)]
 
-use file::{ReadAnswer, WriteAnswer};
+use file::ReadAnswer;
 use std::io;
 use std::io::Write;
 use tables::Table;
@@ -26,68 +26,42 @@ const BIKES: [u8; 166] = [
     255, 255, 255, 5, 0, 0, 0, 0, 255, 255, 255, 255,
 ];
 
-fn line(output: &mut impl Write, text: &[u8], number: u64) -> io::Result<()> {
-    output.write_all(text)?;
-    write!(output, "{number}")?;
-    output.write_all(b"\n")
-}
-
-// Whether a buffer begins with some bytes.
-fn begins<'a>(bytes: &'a [u8], buffer: &'a [u8]) -> bool {
-    let n = bytes.len();
-    let mut k = 0;
-    while k < n {
-        if cells::at8(bytes, k) != cells::at8(buffer, k) {
-            return false;
-        }
-        k += 1;
-    }
-    true
-}
-
-fn compare<'a>(output: &mut impl Write, bytes: &'a [u8], buffer: &'a [u8]) -> io::Result<()> {
-    if begins(bytes, buffer) {
-        output.write_all(b"the same bytes\n")
-    } else {
-        output.write_all(b"other bytes\n")
-    }
-}
-
-fn rewrite(output: &mut impl Write, t: Table, bytes: &[u8]) -> io::Result<()> {
+fn rewrite(output: &mut impl Write, table: Table, bytes: &[u8]) -> io::Result<()> {
     let mut buffer = [7u8; 71364];
-    let answer = ecode::write(t, &mut buffer);
-    match answer {
-        WriteAnswer::Wrote(n) => line(output, b"wrote ", n as u64)?,
-        WriteAnswer::Refused(n) => line(output, b"refused ", n as u64)?,
+    match ecode::write(&table, &mut buffer) {
+        Ok(n) => writeln!(output, "wrote {n}")?,
+        Err(refused) => writeln!(output, "refused {}", refused.number)?,
     }
-    compare(output, bytes, &buffer)
+    if buffer.starts_with(bytes) {
+        writeln!(output, "the same bytes")
+    } else {
+        writeln!(output, "other bytes")
+    }
 }
 
 fn show(output: &mut impl Write, bytes: &[u8]) -> io::Result<()> {
-    let r = ecode::read(bytes);
-    let answer = r.answer;
-    let table = r.table;
-    match answer {
+    let reading = ecode::read(bytes);
+    match reading.answer {
         ReadAnswer::Read => {
-            line(output, b"read ", bytes.len() as u64)?;
-            rewrite(output, table, bytes)
+            writeln!(output, "read {}", bytes.len())?;
+            rewrite(output, reading.table, bytes)
         }
-        ReadAnswer::Refused(n) => line(output, b"refused ", n as u64),
+        ReadAnswer::Refused(n) => writeln!(output, "refused {n}"),
     }
 }
 
 fn show_limits(output: &mut impl Write) -> io::Result<()> {
     let mut file = [0u8; 71364];
-    let n = limits::fill(&mut file);
-    if n <= 71364 {
-        show(output, &file[0..n])?;
+    let size = limits::fill(&mut file);
+    if size <= file.len() {
+        show(output, &file[..size])?;
     }
     Ok(())
 }
 
 fn show_damaged(output: &mut impl Write) -> io::Result<()> {
     let mut file = SMALLEST;
-    show(output, &file[0..76])?;
+    show(output, &file[..76])?;
     file[4] = 2;
     show(output, &file)?;
     file[4] = 1;
@@ -103,10 +77,8 @@ fn show_damaged(output: &mut impl Write) -> io::Result<()> {
 
 fn main(rt: HostRuntime) -> io::Result<()> {
     let mut output = rt.stdout();
-    let smallest = SMALLEST;
-    show(&mut output, &smallest)?;
-    let bikes = BIKES;
-    show(&mut output, &bikes)?;
+    show(&mut output, &SMALLEST)?;
+    show(&mut output, &BIKES)?;
     show_limits(&mut output)?;
     show_damaged(&mut output)
 }

@@ -1,13 +1,12 @@
 -- What each call answers, in document 01's numbers: its checks in their order, then what it did.
-use Rattle.std.specs.Prelude.{ℕ, ◌≡◌, Bool, List}
+use Rattle.std.specs.Prelude.{ℕ, ◌≡◌, Bool, List, Ok}
 use Rattle.std.proofs.Math.Path.{refl}
 use Rattle.std.proofs.Common.{ap}
 use Rattle.std.proofs.Math.Bool.{true, false, cond}
 use Rattle.std.proofs.Math.Option.{Option, none, some}
 use Rattle.model.specs.Clock.{elapsed, Instant, early, due, missed, judged, fits}
 use Rattle.machine.specs.declared.Reaction.TheVariants as R
-use Rattle.machine.specs.declared.Turn.TheVariants as T
-use Rattle.machine.specs.declared.Finishing.TheVariants as F
+use Rattle.machine.specs.Told.{refuse}
 use Rattle.machine.specs.Answers.{Meaning, meaning, reaction_means, turn_means, finishing_means}
 use Rattle.machine.specs.Words.{lowest_in}
 use Rattle.machine.specs.Boards.{Board}
@@ -105,7 +104,7 @@ unfolding next_task next_means
 next-means m = go m.stopped (lowest_in m.store.waiting)
   where
     go : (stopped : Bool) (found : Option ℕ)
-        → turn_means (cond stopped (record { answer = T.Refused 31; state = m }) (handed_out m found)).answer ≡ cond stopped (meaning 31 0 none) (meaning 0 0 found)
+        → turn_means (cond stopped (record { answer = refuse 31; state = m }) (handed_out m found)).answer ≡ cond stopped (meaning 31 0 none) (meaning 0 0 found)
     go true found = refl
     go false none = refl
     go false (some task) = refl
@@ -115,7 +114,7 @@ unfolding finish finish_means
 finish-means b m task types words = go m.stopped (at_work m.store task) (fits (result_types b task) types words) _
   where
     go : (stopped work fit : Bool) (taken : State)
-        → finishing_means (cond {A = C.Finished} stopped (record { answer = F.Refused 31; state = m }) (cond work (cond fit (record { answer = F.Taken; state = taken }) (record { answer = F.Refused 35; state = m })) (record { answer = F.Refused 34; state = m }))).answer
+        → finishing_means (cond {A = C.Finished} stopped (record { answer = refuse 31; state = m }) (cond work (cond fit (record { answer = Ok tt; state = taken }) (record { answer = refuse 35; state = m })) (record { answer = refuse 34; state = m }))).answer
         ≡ cond stopped (meaning 31 0 none) (cond work (cond fit (meaning 0 0 none) (meaning 35 0 none)) (meaning 34 0 none))
     go true work fit taken = refl
     go false false fit taken = refl

@@ -4,16 +4,21 @@
 // Builds on the tables, on the calls of machine as definitions and of calls as code.
 #![tactic(auto)]
 
-ghost use Rattle.std.specs.Prelude.{◌≡◌};
+ghost use Rattle.std.specs.Prelude.{◌≡◌, []};
 ghost use Rattle.machine.specs.Answers.{reaction_means, turn_means, finishing_means};
 ghost use Rattle.machine.specs.Calls.{tick as tick_of, next_task, finish as finish_of, look as look_of, tasks_out};
-ghost use Rattle.machine.specs.declared.Reaction.TheVariants.{Refused};
+ghost use Rattle.machine.specs.declared.Reaction.TheVariants as R;
 ghost use Rattle.machine.specs.Starts.{start_on, no_machine};
-ghost use Rattle.emachine.specs.Machines.{board_in, start_by, state_in, machine_of, mark_of, ticked_on, handed_on, finished_on};
+ghost use Rattle.steps.specs.Rows.{board_by, reactive};
+ghost use Rattle.steps.specs.Steps.{board_of};
+ghost use Rattle.calls.specs.States.{board_at};
+ghost use Rattle.emachine.specs.Machines.{board_in, start_by, state_in, machine_of, ticked_on, handed_on, finished_on};
 ghost use Rattle.emachine.specs.Meanings.{start_means, tick_means, next_means, finish_means};
 
 use calls::Standing;
-use machine::{Finishing, Reaction, Turn};
+use file::Refused;
+use machine::Reaction;
+use steps::programs::Program;
 use tables::Table;
 
 // Everything that look shows, and the table that the machine was started on: no call can meet another.
@@ -33,107 +38,105 @@ pub struct Ticked {
 
 #[derive(Drop)]
 pub struct Handed {
-    pub answer: Turn,
+    pub answer: Result<Option<u32>, Refused>,
     pub machine: Machine,
 }
 
 #[derive(Drop)]
 pub struct Finished {
-    pub answer: Finishing,
+    pub answer: Result<(), Refused>,
     pub machine: Machine,
 }
 
-fn mark(stopped: bool) -> u8
-    ensures { result ≡ mark_of stopped }
+// What a machine's calls read of its table.
+fn program_of(table: &Table) -> Program<'_>
+    ensures ticks { board_at result ≡ board_by table.now.instructions table.now.code table.now.driver_rows table.now.guard_rows table.now.mode_rows
+        table.now.task_rows table.now.types [] table.now.sensors 0 }
+    ensures reacts { board_of result ≡ reactive table.now.instructions table.now.code table.now.driver_rows table.now.guard_rows table.now.mode_rows
+        table.now.task_rows }
+    ensures modes { result.modes.now ≡ table.now.mode_rows }
 {
-    if stopped { 1 } else { 0 }
+    Program {
+        instructions: table.instructions,
+        code: &table.code,
+        drivers: &table.driver_rows,
+        guards: &table.guard_rows,
+        modes: &table.mode_rows,
+        tasks: &table.task_rows,
+        types: &table.types,
+        sensors: table.sensors,
+    }
 }
 
+impl Machine {
+    // A tick at a count, with the types and words of the readings.
+    pub fn tick(&mut self, count: u32, types: &[u32], words: &[u32]) -> Reaction
+        ensures { ticked_on self.old.table (tick_of (board_in self.old.table) (state_in self.old) count types.now words.now)
+            ≡ record { answer = result; machine = self.new } }
+    {
+        let program = program_of(&self.table);
+        calls::tick_on(
+            &program,
+            &self.aside,
+            &mut self.ports,
+            &mut self.standing,
+            count,
+            types,
+            words,
+        )
+    }
+
+    // The next task to run.
+    pub fn next_task(&mut self) -> Result<Option<u32>, Refused>
+        ensures { handed_on self.old.table (next_task (state_in self.old)) ≡ record { answer = result; machine = self.new } }
+    {
+        calls::next_on(&mut self.standing)
+    }
+
+    // A task is finished, with the types and words of its results.
+    pub fn finish(&mut self, task: u32, types: &[u32], words: &[u32]) -> Result<(), Refused>
+        ensures { finished_on self.old.table (finish_of (board_in self.old.table) (state_in self.old) task types.now words.now)
+            ≡ record { answer = result; machine = self.new } }
+    {
+        calls::finish_on(
+            &self.table.task_rows,
+            &self.table.types,
+            &mut self.aside,
+            &mut self.standing,
+            task,
+            types,
+            words,
+        )
+    }
+}
+
+// ---- the same calls, the machine handed on by value
+
 // A tick at a count, with the types and words of the readings.
-pub fn tick<'b>(m: Machine, count: u32, types: &'b [u32], words: &'b [u32]) -> Ticked
+pub fn tick(mut m: Machine, count: u32, types: &[u32], words: &[u32]) -> Ticked
     ensures machine { result ≡ ticked_on m.table (tick_of (board_in m.table) (state_in m) count types.now words.now) }
     ensures means { reaction_means result.answer ≡ tick_means (board_in m.table) (state_in m) count types.now words.now }
 {
-    let at = m.standing;
-    let mut numbers = [at.clock, at.remaining, at.mode, at.pc, at.late];
-    let mut marks = [mark(at.stopped), at.fault];
-    let mut sets = [at.out, at.waiting, at.finished];
-    let mut ports = m.ports;
-    let answer = calls::tick_on(
-        m.table.instructions,
-        &m.table.code,
-        &m.table.driver_rows,
-        &m.table.guard_rows,
-        &m.table.mode_rows,
-        &m.table.task_rows,
-        &m.table.types,
-        m.table.sensors,
-        &m.aside,
-        &mut ports,
-        &mut numbers,
-        &mut marks,
-        &mut sets,
-        count,
-        types,
-        words,
-    );
-    let standing = calls::standing_in(&numbers, &marks, &sets);
-    let mut machine = m;
-    machine.standing = standing;
-    machine.ports = ports;
-    Ticked {
-        answer: answer,
-        machine: machine,
-    }
+    let answer = m.tick(count, types, words);
+    Ticked { answer, machine: m }
 }
 
 // The next task to run.
-pub fn next_task(m: Machine) -> Handed
+pub fn next_task(mut m: Machine) -> Handed
     ensures machine { result ≡ handed_on m.table (next_task (state_in m)) }
     ensures means { turn_means result.answer ≡ next_means (state_in m) }
 {
-    let at = m.standing;
-    let numbers = [at.clock, at.remaining, at.mode, at.pc, at.late];
-    let marks = [mark(at.stopped), at.fault];
-    let mut sets = [at.out, at.waiting, at.finished];
-    let answer = calls::next_on(&marks, &mut sets);
-    let standing = calls::standing_in(&numbers, &marks, &sets);
-    let mut machine = m;
-    machine.standing = standing;
-    Handed {
-        answer: answer,
-        machine: machine,
-    }
+    let answer = m.next_task();
+    Handed { answer, machine: m }
 }
 
 // A task is finished, with the types and words of its results.
-pub fn finish<'b>(m: Machine, task: u32, types: &'b [u32], words: &'b [u32]) -> Finished
+pub fn finish(mut m: Machine, task: u32, types: &[u32], words: &[u32]) -> Finished
     ensures machine { result ≡ finished_on m.table (finish_of (board_in m.table) (state_in m) task types.now words.now) }
     ensures means { finishing_means result.answer ≡ finish_means (board_in m.table) (state_in m) task types.now words.now }
 {
-    let at = m.standing;
-    let numbers = [at.clock, at.remaining, at.mode, at.pc, at.late];
-    let marks = [mark(at.stopped), at.fault];
-    let mut sets = [at.out, at.waiting, at.finished];
-    let mut aside = m.aside;
-    let answer = calls::finish_on(
-        &m.table.task_rows,
-        &m.table.types,
-        &mut aside,
-        &marks,
-        &mut sets,
-        task,
-        types,
-        words,
-    );
-    let standing = calls::standing_in(&numbers, &marks, &sets);
-    let mut machine = m;
-    machine.standing = standing;
-    machine.aside = aside;
-    Finished {
-        answer: answer,
-        machine: machine,
-    }
+    let answer = m.finish(task, types, words);
+    Finished { answer, machine: m }
 }
 
 // The whole machine, stopped or not.
@@ -156,53 +159,34 @@ pub fn tasks_out(m: Machine) -> u32
 fn start_mode(modes: &[u32], count: u32) -> u32
     ensures { result ≡ start_by modes.now 0 count }
 {
-    let mut mode = 0u32;
-    while mode < count {
-        if cells::at32(modes, cells::wide32(mode) * 3) == 1 {
+    for mode in 0..count {
+        if cells::at32(modes, mode as usize * 3) == 1 {
             return mode;
         }
-        mode += 1;
     }
-    mode
+    count
 }
 
 // A refused start makes no machine: what stands in its place is stopped and empty.
 fn refused(table: Table, number: u8) -> Ticked
-    ensures { result ≡ ticked_on table (record { answer = Refused number; state = no_machine }) }
+    ensures { result ≡ ticked_on table (record { answer = R.Refused number; state = no_machine }) }
 {
-    let standing = Standing {
-        clock: 0,
-        remaining: 0,
-        mode: 0,
-        pc: 0,
-        out: 0,
-        waiting: 0,
-        finished: 0,
-        stopped: true,
-        fault: 0,
-        late: 0,
-    };
-    let ports = [0u32; 320];
-    let aside = [0u32; 256];
     Ticked {
         answer: Reaction::Refused(number),
         machine: Machine {
-            table: table,
-            standing: standing,
-            ports: ports,
-            aside: aside,
+            table,
+            standing: Standing {
+                stopped: true,
+                ..Standing::begin(0, 0, 0)
+            },
+            ports: [0; 320],
+            aside: [0; 256],
         },
     }
 }
 
 // A start on a table of which it is known whether the reader could have returned it: 30 if not; 32 readings of wrong count or type.
-pub fn start_on<'b>(
-    table: Table,
-    sound: bool,
-    count: u32,
-    types: &'b [u32],
-    words: &'b [u32],
-) -> Ticked
+pub fn start_on(table: Table, sound: bool, count: u32, types: &[u32], words: &[u32]) -> Ticked
     ensures machine { result ≡ ticked_on table (start_on sound (board_in table) count types.now words.now) }
     ensures means { reaction_means result.answer ≡ start_means sound (board_in table) count types.now words.now }
 {
@@ -212,36 +196,19 @@ pub fn start_on<'b>(
     if !calls::fits(&table.types, 0, table.sensors, types, words) {
         return refused(table, 32);
     }
+    let program = program_of(&table);
     let mode = start_mode(&table.mode_rows, table.modes);
-    let pc = steps::begin_of(&table.mode_rows, mode);
-    let mut numbers = [count, 0, mode, pc, 0];
-    let mut marks = [0u8, 0];
-    let mut sets = [0u64, 0, 0];
+    let mut standing = Standing::begin(count, mode, program.begin_of(mode));
     let mut ports = table.starts;
-    let aside = [0u32; 256];
-    let answer = calls::react_on(
-        table.instructions,
-        &table.code,
-        &table.driver_rows,
-        &table.guard_rows,
-        &table.mode_rows,
-        &table.task_rows,
-        &aside,
-        &mut ports,
-        &mut numbers,
-        &mut marks,
-        &mut sets,
-        count,
-        words,
-    );
-    let standing = calls::standing_in(&numbers, &marks, &sets);
+    let aside = [0; 256];
+    let answer = calls::react_on(&program, &aside, &mut ports, &mut standing, count, words);
     Ticked {
-        answer: answer,
+        answer,
         machine: Machine {
-            table: table,
-            standing: standing,
-            ports: ports,
-            aside: aside,
+            table,
+            standing,
+            ports,
+            aside,
         },
     }
 }

@@ -17,7 +17,7 @@ use Rattle.emit.specs.declared.activities.Kind.TheVariants.{Termination, Update,
 
 -- ---- the edge of a slot at time t: its number
 
-abbrev pub offset : Kind → ℕ
+abbrev offset : Kind → ℕ
 offset Termination = 1
 offset Update = 1
 offset Switch = 1
@@ -158,14 +158,3 @@ module _ (size t : ℕ) where
           let c : (q + 1) * size ≤ f * size = mul-le-mul_right size (omega arith) in
           let d : next_on t (slots_from (f * size / f) f 0) n ≡ min n ((t / (f * size / f) + 1) * (f * size / f)) = next-by-division (f * size) act divides t n (omega arith) in
           sym ((rw back at d) ∙ ap (λ (x : ℕ). min n ((x + 1) * size)) (sym is))
-
-    -- its place is no larger than a slot after t
-    pub next_fits : (q + 1) * size ≤ t + size
-    next_fits =
-        let a = div-add-mod' t size in
-        let b : (q + 1) * size ≡ t / size * size + size = rw is (add-mul (t / size) 1 size ∙ ap (t / size * size +◌) (one-mul size)) in
-        omega arith
-
--- no more slots than fit
-pub multiple-fits : (size q t : ℕ) → q ≡ t / size → q * size ≤ t
-multiple-fits size q t is = let a = div-add-mod' t size in let b : q * size ≡ t / size * size = ap (◌* size) is in omega arith

@@ -32,25 +32,24 @@ module _ (kind : Kind) (period t driver : ℕ) where
       go true = refl
       go false = ap (pieces (body_in kind) rest) (sym (add-zero pc))
 
-module _ (acts : List ℕ) (period t row frequency length : ℕ) (often : frequency ≡ get_or acts (row * 3) 0) (long : length ≡ period / frequency) where
-  slots-are : slots_from length frequency 0 ≡ spans period (act_by acts row)
+module _ (acts : List ℕ) (period t row frequency : ℕ) (often : frequency ≡ get_or acts (row * 3) 0) where
+  slots-are : slots_from (period / frequency) frequency 0 ≡ spans period (act_by acts row)
   unfolding spans
-  slots-are = rw (long, often) refl
+  slots-are = rw often refl
 
-  pub next-end : (soon next : ℕ) → next ≡ next_on t (slots_from length frequency 0) soon → next ≡ next_on t (spans period (act_by acts row)) soon
+  pub next-end : (soon next : ℕ) → next ≡ next_on t (slots_from (period / frequency) frequency 0) soon → next ≡ next_on t (spans period (act_by acts row)) soon
   next-end soon next e = e ∙ rw slots-are refl
 
   module _ (kind : Kind) (driver : ℕ) where
-    pub turned : {s z : Out} (soon next guard cell what : ℕ) → true ≡ any_of (edge_of kind t) (slots_from length frequency 0) → next ≡ next_on t (slots_from length frequency 0) soon
+    pub turned : {s z : Out} (guard cell what : ℕ) → true ≡ any_of (edge_of kind t) (slots_from (period / frequency) frequency 0)
         → guard_by guard ≡ guard_for kind (guard_by cell) → cell ≡ get_or acts (row * 3 + 1) 0 → what ≡ get_or acts (row * 3 + 2) 0 → Emitted s z (guarded (guard_by guard) (body_of kind what driver)) 3
-        → Emitted s z (line kind period t driver (act_by acts row)) 3 × (next ≡ next_on t (spans period (act_by acts row)) soon)
+        → Emitted s z (line kind period t driver (act_by acts row)) 3
     unfolding line
-    turned soon next guard cell what due n g c w e = (called (rw (← slots-are, ← due, g, c, w) refl) (omega arith) e, next-end soon next n)
+    turned guard cell what due g c w e = called (rw (← slots-are, ← due, g, c, w) refl) (omega arith) e
 
-    pub unturned : (s : Out) (soon next : ℕ) → false ≡ any_of (edge_of kind t) (slots_from length frequency 0) → next ≡ next_on t (slots_from length frequency 0) soon
-        → Emitted s s (line kind period t driver (act_by acts row)) 3 × (next ≡ next_on t (spans period (act_by acts row)) soon)
+    pub unturned : (s : Out) → false ≡ any_of (edge_of kind t) (slots_from (period / frequency) frequency 0) → Emitted s s (line kind period t driver (act_by acts row)) 3
     unfolding line
-    unturned s soon next due n = (called (rw (← slots-are, ← due) refl) (omega arith) (nothing s), next-end soon next n)
+    unturned s due = called (rw (← slots-are, ← due) refl) (omega arith) (nothing s)
 
 -- ---- the activities that are left
 
@@ -60,9 +59,6 @@ less i count h = omega arith
 
 further : (n i : ℕ) → n + (i + 1) ≡ n + i + 1
 further n i = omega arith
-
-pub soon-begins : (acts : List ℕ) (period t row count soon : ℕ) → soonest period t (acts_by acts (row + 0) (count - 0)) soon ≡ soonest period t (acts_by acts row count) soon
-soon-begins acts period t row count soon = let e : count - 0 ≡ count = omega arith in rw (add-zero row, e) refl
 
 pub soon-on : (acts : List ℕ) (period t row i count soon next best : ℕ) → i < count → soonest period t (acts_by acts (row + i) (count - i)) soon ≡ best
     → next ≡ next_on t (spans period (act_by acts (row + i))) soon → soonest period t (acts_by acts (row + (i + 1)) (count - (i + 1))) next ≡ best
@@ -81,12 +77,6 @@ pub record Going (kind : Kind) (period t : ℕ) (acts : List ℕ) (goal : Out) (
   pub ends : soonest period t (acts_by acts row left) soon ≡ best
 
 module _ (kind : Kind) (period t : ℕ) (acts : List ℕ) where
-  pub going-begins : (row driver count : ℕ) (s : Out) (soon : ℕ)
-      → Going kind period t acts (emitted s (lines kind period t driver (acts_by acts row count))) (soonest period t (acts_by acts row count) soon) (row + 0) (driver + 0) (count - 0) s soon
-  going-begins row driver count s soon =
-      let e : count - 0 ≡ count = omega arith in
-      record { code = rw (add-zero row, add-zero driver, e) refl; ends = soon-begins acts period t row count soon }
-
   pub going_on : {goal : Out} {best : ℕ} (row driver i count : ℕ) {s z : Out} (soon next : ℕ) {most : ℕ} → i < count → Going kind period t acts goal best (row + i) (driver + i) (count - i) s soon
       → Emitted s z (line kind period t (driver + i) (act_by acts (row + i))) most → next ≡ next_on t (spans period (act_by acts (row + i))) soon
       → Going kind period t acts goal best (row + (i + 1)) (driver + (i + 1)) (count - (i + 1)) z next

@@ -1,5 +1,4 @@
 pub mod Divided
-pub mod Arms
 pub mod Emission
 pub mod Going
 pub mod Parts

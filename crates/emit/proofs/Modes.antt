@@ -11,8 +11,8 @@ use Rattle.model.specs.Rooms.{task_room, mode_room}
 use Rattle.timing.specs.Code.{◌⊕◌, mode_code, mode_driver_count, code_from, begins_from}
 use Rattle.emit.specs.Rows.{mode_by, modes_from, modes_by, code_by, place_in, Generated}
 use Rattle.emit.specs.Emitted.{Out, out, emitted, Emitted}
-use Rattle.emit.specs.Frames.{mode_in, frame_by}
-use Rattle.emit.specs.declared.blocks.Frame.{Frame}
+use Rattle.emit.specs.Frames.{mode_in, FrameOf}
+use Rattle.emit.specs.declared.frames.Frame.{Frame}
 use Rattle.emit.proofs.Emission.{emitted_then, emitted-pc, emitted-none, emitted-cells}
 use Rattle.emit.proofs.Parts.{drivers-are}
 
@@ -22,21 +22,17 @@ pub record Coming (modes acts : List ℕ) (goal : Out) (places : List ℕ) (k le
   pub starts : sets begins k (map place_in (begins_from driver (modes_from modes acts k left) z.pc)) ≡ places
 
 module _ (modes acts : List ℕ) where
-  pub coming-begins : (count driver : ℕ) (s : Out) (begins : List ℕ)
-      → Coming modes acts (emitted s (code_from driver (modes_from modes acts 0 count))) (sets begins 0 (map place_in (begins_from driver (modes_from modes acts 0 count) s.pc))) 0 (count - 0) driver s begins
-  coming-begins count driver s begins = let e : count - 0 ≡ count = omega arith in record { code = rw e refl; starts = rw e refl }
-
-  pub coming-on : {goal : Out} {places : List ℕ} (k count driver : ℕ) (m : Frame) {s z : Out} {begins : List ℕ} {most : ℕ} (place : ℕ) → k < count → m ≡ frame_by modes k driver
+  pub coming-on : {goal : Out} {places : List ℕ} (k count driver : ℕ) (m : Frame) {s z : Out} {begins : List ℕ} {most : ℕ} (place : ℕ) → k < count → FrameOf modes k driver m
       → Coming modes acts goal places k (count - k) driver s begins → Emitted s z (mode_code m.driver (mode_in acts m)) most → place ≡ place_in s.pc
-      → Coming modes acts goal places (k + 1) (count - (k + 1)) (driver + m.updates + m.calls) z (set begins k place)
+      → Coming modes acts goal places (k + 1) (count - (k + 1)) (driver + (m.updates + m.calls)) z (set begins k place)
   unfolding modes_from code_from begins_from
   coming-on {goal} {places} k count driver m {s} {z} {begins} place h is c e at =
       let less : count - k ≡ suc (count - (k + 1)) = omega arith in
       let M = mode_by modes acts k in
       let rest = modes_from modes acts (k + 1) (count - (k + 1)) in
-      let same : mode_code driver M ≡ mode_code m.driver (mode_in acts m) = rw is refl in
-      let d : driver + mode_driver_count M ≡ driver + m.updates + m.calls =
-      omega (arith, drivers-are acts (frame_by modes k driver), ap (λ (x : Frame). x.updates) is, ap (λ (x : Frame). x.calls) is) in
+      let mode : mode_in acts m ≡ M = rw (is.period, is.calls, is.updates, is.switches, is.row) refl in
+      let same : mode_code driver M ≡ mode_code m.driver (mode_in acts m) = rw (mode, is.base) refl in
+      let d : driver + mode_driver_count M ≡ driver + (m.updates + m.calls) = ap (λ (n : ℕ). driver + n) (sym (ap mode_driver_count mode) ∙ drivers-are acts m) in
       let z-is : z ≡ emitted s (mode_code driver M) = e.code ∙ ap (emitted s) (sym same) in
       let pc-is : z.pc ≡ s.pc + length (mode_code driver M s.pc) = ap (λ (x : Out). x.pc) z-is ∙ emitted-pc s (mode_code driver M) in
       let code : emitted s (mode_code driver M ⊕ code_from (driver + mode_driver_count M) rest) ≡ goal = rw less at c.code in

@@ -14,7 +14,7 @@ use Rattle.emit.specs.Alike.{Alike, alike-maps, alike_from, alike-driven, alike-
 use Rattle.emit.specs.Emitted.{Out, Stored, Emitted}
 use Rattle.emit.specs.Lines.{body_in, seen_as, lines}
 use Rattle.emit.specs.Frames.{mode_in}
-use Rattle.emit.specs.declared.blocks.Frame.{Frame}
+use Rattle.emit.specs.declared.frames.Frame.{Frame}
 use Rattle.emit.specs.declared.activities.Kind.TheVariants.{Termination, Update, Switch, Release}
 use Rattle.emit.proofs.Emission.{renamed, follows, single}
 

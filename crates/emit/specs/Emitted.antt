@@ -4,6 +4,7 @@ use Rattle.model.specs.Rooms.{code_room}
 use Rattle.model.specs.Instructions.{Instr}
 use Rattle.file.specs.Code.{triple_of}
 use Rattle.timing.specs.Code.{Piece}
+use Rattle.emit.specs.declared.listing.Listing.{Listing}
 
 -- its cells, and the place of the next instruction, also beyond its end
 pub record Out : Type 0 where
@@ -12,6 +13,9 @@ pub record Out : Type 0 where
 
 abbrev pub out : List ℕ → ℕ → Out
 out cells pc = record { cells = cells; pc = pc }
+
+abbrev pub listed : Listing → Out
+listed l = out l.cells.now l.pc
 
 -- one row more; one beyond the table is only counted
 unfoldable pub stored : Out → ℕ → ℕ → ℕ → Out

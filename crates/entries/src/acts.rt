@@ -1,114 +1,77 @@
 // What an activity does: a task invoked and its sources, an actuator updated, a switch of the mode; and the end of a task.
-ghost use Rattle.std.specs.Prelude.{◌≡◌};
-ghost use Rattle.refusals.specs.Ports.{task_named, port_named};
-ghost use Rattle.refusals.specs.Activities.{actuator_named, mode_named};
+ghost use Rattle.std.specs.Prelude.{◌≡◌, ℕ, List};
+ghost use Rattle.text.specs.declared.Item.TheVariants.{TaskEnd, Invoke, Arg, Update, Switch};
+ghost use Rattle.refusals.specs.declared.Row.{Row};
+ghost use Rattle.text.specs.declared.Name.{Name as TextName};
 ghost use Rattle.names.specs.Tables.{rows_in};
 ghost use Rattle.names.specs.Index.{Indexed};
-ghost use Rattle.sheets.specs.Sheets.{TaskEnded, Invoked, Updated, Switched, Sourced};
+ghost use Rattle.sheets.specs.Sheets.{sheet_of, planned, SameArrays};
 
 use super::rows;
+use heads::counts::{act_done, guard_cell};
+use heads::numbers::clamp;
 use names::Scope;
-use sheets::{Filled, Plan};
+use sheets::{Arrays, Filled, Opened, Plan};
 use text::{Name, Port};
 
 // A task's end: its termination stands behind those before, and before all drivers of modes.
-pub fn task_ended(plan: Plan, driver_rows: &mut [u32]) -> Plan
-    ensures { TaskEnded plan driver_rows.old result driver_rows.new }
+pub fn task_ended(arrays: &mut Arrays)
+    ensures done { (s : List ℕ) (all rows : List Row) (name : TextName) → sheet_of arrays.new ≡ planned s all rows (TaskEnd name) (sheet_of arrays.old) }
+    ensures same { SameArrays arrays.new arrays.old }
 {
-    let filled = plan.filled;
-    let opened = plan.opened;
-    let acting = plan.acting;
-    let behind = heads::numbers::left(filled.drivers, filled.tasks);
-    rows::terminate(driver_rows, filled.tasks, behind);
-    let filled = Filled {
-        tasks: heads::numbers::more(filled.tasks),
-        drivers: heads::numbers::more(filled.drivers),
-        acts: filled.acts,
-        guards: filled.guards,
-        modes: filled.modes,
-    };
-    Plan {
-        filled,
-        opened,
-        acting,
-    }
+    let Filled { tasks, drivers, .. } = arrays.plan.filled;
+    rows::terminate(arrays.drivers, tasks, drivers.saturating_sub(tasks));
+    arrays.plan.filled.tasks = tasks.saturating_add(1);
+    arrays.plan.filled.drivers = drivers.saturating_add(1);
 }
 
 // A task invoked: its release is the last driver so far.
-pub fn invoked(
-    s: &[u8],
-    cells: &[usize],
-    n: usize,
-    plan: Plan,
-    task: Name,
-    guard_rows: &mut [u32],
-    driver_rows: &mut [u32],
-    acts: &mut [u32],
-) -> Plan
-    ensures { Indexed s.now cells.now → Invoked plan (task_named s.now (rows_in cells.now n) task).value guard_rows.old driver_rows.old acts.old result guard_rows.new driver_rows.new acts.new }
+pub fn invoked(s: &[u8], cells: &[usize], n: usize, task: Name, arrays: &mut Arrays)
+    ensures done { Indexed s.now cells.now → (all : List Row) (arguments : ℕ) → sheet_of arrays.new ≡ planned s.now all (rows_in cells.now n) (Invoke task arguments) (sheet_of arrays.old) }
+    ensures same { SameArrays arrays.new arrays.old }
 {
-    let row = meanings::task_named(s, cells, n, task);
-    let number = heads::numbers::clamp(row.value);
-    let filled = plan.filled;
-    let opened = plan.opened;
-    let acting = plan.acting;
-    rows::guard(guard_rows, filled.guards, acting);
-    let driver = cells::wide32(filled.drivers)
-        + cells::wide32(opened.updates)
-        + cells::wide32(opened.calls);
-    rows::release(driver_rows, driver, number);
-    let act = cells::wide32(filled.acts) + cells::wide32(opened.calls);
-    let behind = cells::wide32(opened.updates) + cells::wide32(opened.switches);
-    rows::act(
-        acts,
-        act,
-        behind,
-        acting.frequency,
-        heads::counts::guard_cell(acting, filled.guards),
-        number,
-    );
-    let calls = heads::numbers::more(opened.calls);
-    heads::counts::act_done(
-        plan,
-        heads::counts::counted(opened, calls, opened.updates, opened.switches, 0),
-    )
-}
-
-// One source more for the task invoked last, where there is one.
-pub fn source_read(
-    s: &[u8],
-    cells: &[usize],
-    n: usize,
-    plan: Plan,
-    port: Port,
-    driver_rows: &mut [u32],
-) -> Plan
-    ensures { Indexed s.now cells.now → Sourced plan (port_named s.now (rows_in cells.now n) port).value driver_rows.old result driver_rows.new }
-{
-    let filled = plan.filled;
-    let opened = plan.opened;
-    let acting = plan.acting;
-    if opened.calls == 0 {
-        return plan;
-    }
-    let row = meanings::port_named(s, cells, n, port);
-    let number = heads::numbers::clamp(row.value);
-    let driver = cells::wide32(filled.drivers)
-        + cells::wide32(opened.updates)
-        + cells::wide32(opened.calls - 1);
-    rows::source(driver_rows, driver, opened.sources, number);
-    let sources = heads::numbers::more(opened.sources);
-    let opened = heads::counts::counted(
-        opened,
-        opened.calls,
-        opened.updates,
-        opened.switches,
-        sources,
-    );
-    Plan {
+    let number = clamp(meanings::task_named(s, cells, n, task).value);
+    let plan = arrays.plan;
+    let Plan {
         filled,
         opened,
         acting,
+    } = plan;
+    rows::guard(arrays.guards, filled.guards, acting);
+    let driver = filled.drivers as usize + opened.updates as usize + opened.calls as usize;
+    rows::release(arrays.drivers, driver, number);
+    rows::act(
+        arrays.acts,
+        filled.acts as usize + opened.calls as usize,
+        opened.updates as usize + opened.switches as usize,
+        [acting.frequency, guard_cell(acting, filled.guards), number],
+    );
+    arrays.plan = act_done(
+        plan,
+        Opened {
+            calls: opened.calls.saturating_add(1),
+            sources: 0,
+            ..opened
+        },
+    );
+}
+
+// One source more for the task invoked last, where there is one.
+pub fn source_read(s: &[u8], cells: &[usize], n: usize, port: Port, arrays: &mut Arrays)
+    ensures done { Indexed s.now cells.now → (all : List Row) → sheet_of arrays.new ≡ planned s.now all (rows_in cells.now n) (Arg port) (sheet_of arrays.old) }
+    ensures same { SameArrays arrays.new arrays.old }
+{
+    let Plan { filled, opened, .. } = arrays.plan;
+    if 0 < opened.calls {
+        let number = clamp(meanings::port_named(s, cells, n, port).value);
+        let driver = filled.drivers as usize
+            + opened.updates as usize
+            + (opened.calls - 1) as usize;
+        rows::source(arrays.drivers, driver, opened.sources, number);
+        arrays.plan.opened = Opened {
+            sources: opened.sources.saturating_add(1),
+            ..opened
+        };
     }
 }
 
@@ -117,91 +80,64 @@ pub fn updated(
     s: &[u8],
     cells: &[usize],
     n: usize,
-    plan: Plan,
     actuator: Name,
     source: Port,
-    guard_rows: &mut [u32],
-    driver_rows: &mut [u32],
-    acts: &mut [u32],
-) -> Plan
-    ensures { Indexed s.now cells.now → Updated plan (port_named s.now (rows_in cells.now n) source).value (actuator_named s.now (rows_in cells.now n) actuator).value guard_rows.old driver_rows.old acts.old result guard_rows.new driver_rows.new acts.new }
+    arrays: &mut Arrays,
+)
+    ensures done { Indexed s.now cells.now → (all : List Row) → sheet_of arrays.new ≡ planned s.now all (rows_in cells.now n) (Update actuator source) (sheet_of arrays.old) }
+    ensures same { SameArrays arrays.new arrays.old }
 {
-    let from = meanings::port_named(s, cells, n, source);
-    let to = meanings::named(s, cells, n, Scope::Numbered(0), 2, actuator);
-    let filled = plan.filled;
-    let opened = plan.opened;
-    let acting = plan.acting;
-    rows::guard(guard_rows, filled.guards, acting);
-    let driver = cells::wide32(filled.drivers) + cells::wide32(opened.updates);
-    rows::update(
-        driver_rows,
-        driver,
-        cells::wide32(opened.calls),
-        heads::numbers::clamp(from.value),
-        heads::numbers::clamp(to.value),
-    );
-    let act = cells::wide32(filled.acts)
-        + cells::wide32(opened.calls)
-        + cells::wide32(opened.updates);
+    let from = clamp(meanings::port_named(s, cells, n, source).value);
+    let to = clamp(meanings::named(s, cells, n, Scope::Numbered(0), 2, actuator).value);
+    let plan = arrays.plan;
+    let Plan {
+        filled,
+        opened,
+        acting,
+    } = plan;
+    rows::guard(arrays.guards, filled.guards, acting);
+    let driver = filled.drivers as usize + opened.updates as usize;
+    rows::update(arrays.drivers, driver, opened.calls, from, to);
     rows::act(
-        acts,
-        act,
-        cells::wide32(opened.switches),
-        acting.frequency,
-        heads::counts::guard_cell(acting, filled.guards),
-        0,
+        arrays.acts,
+        filled.acts as usize + opened.calls as usize + opened.updates as usize,
+        opened.switches as usize,
+        [acting.frequency, guard_cell(acting, filled.guards), 0],
     );
-    let updates = heads::numbers::more(opened.updates);
-    heads::counts::act_done(
+    arrays.plan = act_done(
         plan,
-        heads::counts::counted(
-            opened,
-            opened.calls,
-            updates,
-            opened.switches,
-            opened.sources,
-        ),
-    )
+        Opened {
+            updates: opened.updates.saturating_add(1),
+            ..opened
+        },
+    );
 }
 
 // A switch of the mode; its target is one of all modes of the text.
-pub fn switched(
-    s: &[u8],
-    cells: &[usize],
-    all: usize,
-    plan: Plan,
-    name: Name,
-    guard_rows: &mut [u32],
-    acts: &mut [u32],
-) -> Plan
-    ensures { Indexed s.now cells.now → Switched plan (mode_named s.now (rows_in cells.now all) name).value guard_rows.old acts.old result guard_rows.new acts.new }
+pub fn switched(s: &[u8], cells: &[usize], all: usize, name: Name, arrays: &mut Arrays)
+    ensures done { Indexed s.now cells.now → (rows : List Row) → sheet_of arrays.new ≡ planned s.now (rows_in cells.now all) rows (Switch name) (sheet_of arrays.old) }
+    ensures same { SameArrays arrays.new arrays.old }
 {
-    let row = meanings::named(s, cells, all, Scope::Numbered(0), 4, name);
-    let filled = plan.filled;
-    let opened = plan.opened;
-    let acting = plan.acting;
-    rows::guard(guard_rows, filled.guards, acting);
-    let act = cells::wide32(filled.acts)
-        + cells::wide32(opened.calls)
-        + cells::wide32(opened.updates)
-        + cells::wide32(opened.switches);
+    let target = clamp(meanings::named(s, cells, all, Scope::Numbered(0), 4, name).value);
+    let plan = arrays.plan;
+    let Plan {
+        filled,
+        opened,
+        acting,
+    } = plan;
+    rows::guard(arrays.guards, filled.guards, acting);
+    let works = opened.calls as usize + opened.updates as usize;
     rows::act(
-        acts,
-        act,
+        arrays.acts,
+        filled.acts as usize + works + opened.switches as usize,
         0,
-        acting.frequency,
-        heads::counts::guard_cell(acting, filled.guards),
-        heads::numbers::clamp(row.value),
+        [acting.frequency, guard_cell(acting, filled.guards), target],
     );
-    let switches = heads::numbers::more(opened.switches);
-    heads::counts::act_done(
+    arrays.plan = act_done(
         plan,
-        heads::counts::counted(
-            opened,
-            opened.calls,
-            opened.updates,
-            switches,
-            opened.sources,
-        ),
-    )
+        Opened {
+            switches: opened.switches.saturating_add(1),
+            ..opened
+        },
+    );
 }

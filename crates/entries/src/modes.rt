@@ -1,38 +1,19 @@
 // A mode's end.
-ghost use Rattle.std.specs.Prelude.{◌≡◌};
-ghost use Rattle.sheets.specs.Sheets.{ModeEnded};
+ghost use Rattle.std.specs.Prelude.{◌≡◌, List};
+ghost use Rattle.text.specs.declared.Item.TheVariants.{ModeEnd};
+ghost use Rattle.refusals.specs.declared.Row.{Row};
+ghost use Rattle.sheets.specs.Sheets.{sheet_of, planned, SameArrays};
 
 use super::rows;
-use sheets::Plan;
+use sheets::{Arrays, Plan};
 
-pub fn mode_ended(
-    s: &[u8],
-    plan: Plan,
-    mode_names: &mut [u8],
-    mode_rows: &mut [u32],
-    modes: &mut [u32],
-) -> Plan
-    ensures { ModeEnded s.now plan mode_names.old mode_rows.old modes.old result mode_names.new mode_rows.new modes.new }
+pub fn mode_ended(s: &[u8], arrays: &mut Arrays)
+    ensures done { (all rows : List Row) → sheet_of arrays.new ≡ planned s.now all rows ModeEnd (sheet_of arrays.old) }
+    ensures same { SameArrays arrays.new arrays.old }
 {
-    let filled = plan.filled;
-    let opened = plan.opened;
-    let acting = plan.acting;
-    let name = opened.name;
-    heads::titles::title(s, name, filled.modes, mode_names);
-    rows::head(mode_rows, filled.modes, opened.start, opened.period);
-    rows::frame(
-        modes,
-        filled.modes,
-        opened.period,
-        opened.calls,
-        opened.updates,
-        opened.switches,
-        filled.acts,
-    );
-    let filled = heads::counts::close(filled, opened);
-    Plan {
-        filled,
-        opened,
-        acting,
-    }
+    let Plan { filled, opened, .. } = arrays.plan;
+    heads::titles::title(s, opened.name, filled.modes, arrays.names);
+    rows::head(arrays.heads, filled.modes, opened);
+    rows::frame(arrays.modes, filled, opened);
+    arrays.plan.filled = heads::counts::close(filled, opened);
 }

@@ -1,29 +1,23 @@
 // Rows of cells: one put in among others, and the rows of guards, drivers and activities.
-ghost use Rattle.std.specs.Prelude.{◌≡◌, [], ◌∷◌, ◌+◌, ◌*◌, ◌<◌, ◌≤◌, ◌^◌, get_or, length, set};
+#![tactic(auto, unfolding(layout::specs::Filling::stored, sheets::specs::Sheets::inserted, sheets::specs::Sheets::source_stored))]
+
+ghost use Rattle.std.specs.Prelude.{◌≡◌, [], ◌∷◌, ◌+◌, ◌-◌, ◌*◌, ◌<◌, ◌≤◌, ◌^◌, length};
 ghost use Rattle.layout.specs.Filling.{stored};
 ghost use Rattle.sheets.specs.Sheets.{raised, inserted, guard_stored, source_stored};
 
-use sheets::Acting;
-
-// A cell moved to another place; where it stood stands 0.
-fn lift(rows: &mut [u32], from: usize, to: usize)
-    ensures { rows.new ≡ set (set rows.old to (get_or rows.old from 0)) from 0 }
-{
-    let number = cells::at32(rows, from);
-    cells::put32(rows, to, number);
-    cells::put32(rows, from, 0);
-}
+use heads::stores::store;
+use sheets::{Acting, Filled, Opened};
 
 // So many cells from a place on, moved up by a width, where the array may end before the last of them.
 fn drag(rows: &mut [u32], place: usize, width: usize, count: usize)
     requires { (place < 2 ^ 40) × (width < 2 ^ 10) × (count < 2 ^ 40) }
     ensures { rows.new ≡ raised place width count rows.old }
 {
-    let mut left = count;
-    while 0 < left {
-        left -= 1;
+    for left in (0..count).rev() {
         let from = place + left;
-        lift(rows, from, from + width);
+        let number = cells::at32(rows, from);
+        cells::put32(rows, from + width, number);
+        cells::put32(rows, from, 0);
     }
 }
 
@@ -32,9 +26,7 @@ fn shift(rows: &mut [u32], place: usize, width: usize, count: usize)
     requires { (place < 2 ^ 40) × (width < 2 ^ 10) × (count < 2 ^ 40) × (place + width + count ≤ length rows.old) }
     ensures { rows.new ≡ raised place width count rows.old }
 {
-    let mut left = count;
-    while 0 < left {
-        left -= 1;
+    for left in (0..count).rev() {
         let from = place + left;
         rows[from + width] = rows[from];
         rows[from] = 0;
@@ -48,58 +40,36 @@ fn raise(rows: &mut [u32], place: usize, width: usize, count: usize)
 {
     if place + width + count <= rows.len() {
         shift(rows, place, width, count);
-        return;
+    } else {
+        drag(rows, place, width, count);
     }
-    drag(rows, place, width, count);
 }
 
-fn two(rows: &mut [u32], place: usize, first: u32, second: u32)
-    requires { place < 2 ^ 41 }
-    ensures { rows.new ≡ stored rows.old place (first ∷ second ∷ []) }
+// A row of a width put in, where so many rows follow.
+fn insert(rows: &mut [u32], width: usize, row: usize, behind: usize, cells: &[u32])
+    requires { (width < 2 ^ 4) × (row < 2 ^ 35) × (behind < 2 ^ 35) }
+    ensures { rows.new ≡ inserted width row behind cells.now rows.old }
 {
-    cells::put32(rows, place, first);
-    cells::put32(rows, place + 1, second);
-}
-
-fn three(rows: &mut [u32], place: usize, first: u32, second: u32, third: u32)
-    requires { place < 2 ^ 41 }
-    ensures { rows.new ≡ stored rows.old place (first ∷ second ∷ third ∷ []) }
-{
-    cells::put32(rows, place, first);
-    cells::put32(rows, place + 1, second);
-    cells::put32(rows, place + 2, third);
-}
-
-fn four(rows: &mut [u32], place: usize, first: u32, second: u32, third: u32, fourth: u32)
-    requires { place < 2 ^ 41 }
-    ensures { rows.new ≡ stored rows.old place (first ∷ second ∷ third ∷ fourth ∷ []) }
-{
-    cells::put32(rows, place, first);
-    cells::put32(rows, place + 1, second);
-    cells::put32(rows, place + 2, third);
-    cells::put32(rows, place + 3, fourth);
+    let place = row * width;
+    raise(rows, place, width, behind * width);
+    store(rows, place, cells);
 }
 
 // ---- drivers
 
 // A termination put in behind those of the tasks before, where so many rows follow.
-pub(super) fn terminate(rows: &mut [u32], task: u32, behind: usize)
-    requires { behind < 2 ^ 35 }
+pub(super) fn terminate(rows: &mut [u32], task: u32, behind: u32)
     ensures { rows.new ≡ inserted 12 task behind (5 ∷ task ∷ []) rows.old }
 {
-    let place = cells::wide32(task) * 12;
-    raise(rows, place, 12, behind * 12);
-    two(rows, place, 5, task);
+    insert(rows, 12, task as usize, behind as usize, &[5, task]);
 }
 
 // An update put in at a row, where so many rows follow.
-pub(super) fn update(rows: &mut [u32], row: usize, behind: usize, source: u32, target: u32)
-    requires { (row < 2 ^ 35) × (behind < 2 ^ 35) }
+pub(super) fn update(rows: &mut [u32], row: usize, behind: u32, source: u32, target: u32)
+    requires { row < 2 ^ 35 }
     ensures { rows.new ≡ inserted 12 row behind (3 ∷ target ∷ 1 ∷ source ∷ []) rows.old }
 {
-    let place = row * 12;
-    raise(rows, place, 12, behind * 12);
-    four(rows, place, 3, target, 1, source);
+    insert(rows, 12, row, behind as usize, &[3, target, 1, source]);
 }
 
 // A release without sources yet, at a row behind all others.
@@ -107,7 +77,7 @@ pub(super) fn release(rows: &mut [u32], row: usize, task: u32)
     requires { row < 2 ^ 35 }
     ensures { rows.new ≡ stored rows.old (row * 12) (4 ∷ task ∷ 0 ∷ []) }
 {
-    three(rows, row * 12, 4, task, 0);
+    store(rows, row * 12, &[4, task, 0]);
 }
 
 // One source more for the release at a row, which has so many.
@@ -116,27 +86,18 @@ pub(super) fn source(rows: &mut [u32], row: usize, sources: u32, port: u32)
     ensures { rows.new ≡ source_stored row sources port rows.old }
 {
     let place = row * 12;
-    cells::put32(rows, place + 2, heads::numbers::more(sources));
-    cells::put32(rows, place + 3 + cells::wide32(sources), port);
+    cells::put32(rows, place + 2, sources.saturating_add(1));
+    cells::put32(rows, place + 3 + sources as usize, port);
 }
 
 // ---- activities
 
 // An activity put in at a row, where so many rows follow.
-pub(super) fn act(
-    rows: &mut [u32],
-    row: usize,
-    behind: usize,
-    frequency: u32,
-    guard: u32,
-    what: u32,
-)
+pub(super) fn act(rows: &mut [u32], row: usize, behind: usize, cells: [u32; 3])
     requires { (row < 2 ^ 35) × (behind < 2 ^ 35) }
-    ensures { rows.new ≡ inserted 3 row behind (frequency ∷ guard ∷ what ∷ []) rows.old }
+    ensures { rows.new ≡ inserted 3 row behind cells rows.old }
 {
-    let place = row * 3;
-    raise(rows, place, 3, behind * 3);
-    three(rows, place, frequency, guard, what);
+    insert(rows, 3, row, behind, &cells);
 }
 
 // ---- guards
@@ -145,55 +106,49 @@ pub(super) fn act(
 pub(super) fn guard(rows: &mut [u32], number: u32, acting: Acting)
     ensures { rows.new ≡ guard_stored number acting rows.old }
 {
-    let place = cells::wide32(number) * 6;
     if acting.function == 0 {
         return;
     }
+    let place = number as usize * 6;
     let function = acting.function - 1;
     if function < 2 {
-        four(
+        store(
             rows,
             place,
-            function,
-            1,
-            acting.first_place,
-            acting.first_word,
+            &[function, 1, acting.first_place, acting.first_word],
         );
-        return;
+    } else {
+        store(
+            rows,
+            place,
+            &[function, 2, acting.first_place, acting.first_word],
+        );
+        store(rows, place + 4, &[acting.second_place, acting.second_word]);
     }
-    four(
-        rows,
-        place,
-        function,
-        2,
-        acting.first_place,
-        acting.first_word,
-    );
-    two(rows, place + 4, acting.second_place, acting.second_word);
 }
 
 // ---- modes
 
 // Start and period of a mode, as this number.
-pub(super) fn head(rows: &mut [u32], number: u32, start: u32, period: u32)
-    ensures { rows.new ≡ stored rows.old (number * 3) (start ∷ period ∷ 0 ∷ []) }
+pub(super) fn head(rows: &mut [u32], number: u32, mode: Opened)
+    ensures { rows.new ≡ stored rows.old (number * 3) (mode.start ∷ mode.period ∷ 0 ∷ []) }
 {
-    three(rows, cells::wide32(number) * 3, start, period, 0);
+    store(rows, number as usize * 3, &[mode.start, mode.period, 0]);
 }
 
-// Period, activities of each kind and first activity's row of a mode, as this number.
-pub(super) fn frame(
-    rows: &mut [u32],
-    number: u32,
-    period: u32,
-    calls: u32,
-    updates: u32,
-    switches: u32,
-    first: u32,
-)
-    ensures { rows.new ≡ stored rows.old (number * 5) (period ∷ calls ∷ updates ∷ switches ∷ first ∷ []) }
+// Period, activities of each kind and first activity's row of a mode, behind what is filled.
+pub(super) fn frame(rows: &mut [u32], filled: Filled, mode: Opened)
+    ensures { rows.new ≡ stored rows.old (filled.modes * 5) (mode.period ∷ mode.calls ∷ mode.updates ∷ mode.switches ∷ filled.acts ∷ []) }
 {
-    let place = cells::wide32(number) * 5;
-    two(rows, place, period, calls);
-    three(rows, place + 2, updates, switches, first);
+    store(
+        rows,
+        filled.modes as usize * 5,
+        &[
+            mode.period,
+            mode.calls,
+            mode.updates,
+            mode.switches,
+            filled.acts,
+        ],
+    );
 }

@@ -1,247 +1,118 @@
 // What a call changed, and the whole machine, a line each.
-use super::pieces;
+use super::names;
 use calls::Standing;
+use emachine::Machine;
 use std::io;
 use std::io::Write;
-
-// ---- lists of tasks
-
-// A task behind a blank, where its bit is set.
-fn one(output: &mut impl Write, task_names: &[u8], number: u32, bits: u64) -> io::Result<()> {
-    if bits % 2 == 1 {
-        pieces::put(output, b" ")?;
-        pieces::task(output, task_names, number)?;
-    }
-    Ok(())
-}
-
-// The tasks of a word, each behind a blank.
-fn named(output: &mut impl Write, task_names: &[u8], word: u64) -> io::Result<()> {
-    let mut bits = word;
-    let mut k = 0u32;
-    while k < 64 {
-        one(output, task_names, k, bits)?;
-        bits = bits / 2;
-        k += 1;
-    }
-    Ok(())
-}
+use tables::Table;
 
 // A list by its name: the tasks of a word, or `-`.
-fn list<'a>(
-    output: &mut impl Write,
-    name: &'a [u8],
-    task_names: &'a [u8],
-    word: u64,
-) -> io::Result<()> {
-    pieces::put(output, name)?;
+fn list(output: &mut impl Write, name: &str, table: &Table, word: u64) -> io::Result<()> {
+    write!(output, "{name}")?;
     if word == 0 {
-        return pieces::put(output, b" -\n");
+        return writeln!(output, " -");
     }
-    named(output, task_names, word)?;
-    pieces::put(output, b"\n")
+    for task in 0..64u32 {
+        if (word >> task) & 1 == 1 {
+            write!(output, " ")?;
+            names::task(output, table, task)?;
+        }
+    }
+    writeln!(output)
 }
 
-// ---- changes
+// ---- what changed
 
-fn number(output: &mut impl Write, name: &[u8], old: u32, new: u32) -> io::Result<()> {
-    if old == new {
-        return Ok(());
-    }
-    pieces::put(output, name)?;
-    pieces::number(output, old as u64)?;
-    pieces::put(output, b" -> ")?;
-    pieces::number(output, new as u64)?;
-    pieces::put(output, b"\n")
-}
-
-fn mode(output: &mut impl Write, mode_names: &[u8], old: u32, new: u32) -> io::Result<()> {
-    if old == new {
-        return Ok(());
-    }
-    pieces::put(output, b"  mode ")?;
-    pieces::mode(output, mode_names, old)?;
-    pieces::put(output, b" -> ")?;
-    pieces::mode(output, mode_names, new)?;
-    pieces::put(output, b"\n")
-}
-
-// The clock and the mode, where they changed.
-pub(super) fn clock(
-    output: &mut impl Write,
-    mode_names: &[u8],
-    old: Standing,
-    new: Standing,
-) -> io::Result<()> {
-    number(output, b"  count ", old.clock, new.clock)?;
-    number(output, b"  remaining ", old.remaining, new.remaining)?;
-    mode(output, mode_names, old.mode, new.mode)
-}
-
-// The lists of tasks and whether the machine is stopped, where they changed.
-pub(super) fn lists(
-    output: &mut impl Write,
-    task_names: &[u8],
-    old: Standing,
-    new: Standing,
-) -> io::Result<()> {
-    if old.out != new.out {
-        list(output, b"  out:", task_names, new.out)?;
-    }
-    if old.waiting != new.waiting {
-        list(output, b"  waiting:", task_names, new.waiting)?;
-    }
-    if old.stopped != new.stopped {
-        pieces::put(output, b"  stopped: yes\n")?;
+fn number(output: &mut impl Write, name: &str, old: u32, new: u32) -> io::Result<()> {
+    if old != new {
+        writeln!(output, "  {name} {old} -> {new}")?;
     }
     Ok(())
 }
 
-// A port, where it changed.
-fn port<'a>(
-    output: &mut impl Write,
-    number: u32,
-    typ: u32,
-    old: u32,
-    new: u32,
-    sensors: u32,
-    actuators: u32,
-    tasks: u32,
-    sensor_names: &'a [u8],
-    actuator_names: &'a [u8],
-    task_names: &'a [u8],
-    output_names: &'a [u8],
-    task_rows: &'a [u32],
-) -> io::Result<()> {
-    if old == new {
-        return Ok(());
+fn mode(output: &mut impl Write, table: &Table, old: u32, new: u32) -> io::Result<()> {
+    if old != new {
+        write!(output, "  mode ")?;
+        names::mode(output, table, old)?;
+        write!(output, " -> ")?;
+        names::mode(output, table, new)?;
+        writeln!(output)?;
     }
-    pieces::put(output, b"  ")?;
-    pieces::port(
-        output,
-        number,
-        sensors,
-        actuators,
-        tasks,
-        sensor_names,
-        actuator_names,
-        task_names,
-        output_names,
-        task_rows,
-    )?;
-    pieces::put(output, b" ")?;
-    pieces::value(output, typ, old)?;
-    pieces::put(output, b" -> ")?;
-    pieces::value(output, typ, new)?;
-    pieces::put(output, b"\n")
+    Ok(())
 }
 
 // The ports that changed.
-pub(super) fn ports<'a>(
-    output: &mut impl Write,
-    roles: &'a [u32],
-    types: &'a [u32],
-    old: &'a [u32],
-    new: &'a [u32],
-    sensors: u32,
-    actuators: u32,
-    tasks: u32,
-    sensor_names: &'a [u8],
-    actuator_names: &'a [u8],
-    task_names: &'a [u8],
-    output_names: &'a [u8],
-    task_rows: &'a [u32],
-) -> io::Result<()> {
-    let mut k = 0u32;
-    while k < 320 {
-        let place = cells::wide32(k);
-        if cells::at32(roles, place) == 0 {
-            return Ok(());
+fn ports(output: &mut impl Write, table: &Table, old: &[u32], new: &[u32]) -> io::Result<()> {
+    for number in 0..names::ports(table) {
+        let place = number as usize;
+        let was = cells::at32(old, place);
+        let is = cells::at32(new, place);
+        if was != is {
+            let typ = cells::at32(&table.types, place);
+            write!(output, "  ")?;
+            names::port(output, table, number)?;
+            writeln!(
+                output,
+                " {} -> {}",
+                names::Value { typ, word: was },
+                names::Value { typ, word: is }
+            )?;
         }
-        port(
-            output,
-            k,
-            cells::at32(types, place),
-            cells::at32(old, place),
-            cells::at32(new, place),
-            sensors,
-            actuators,
-            tasks,
-            sensor_names,
-            actuator_names,
-            task_names,
-            output_names,
-            task_rows,
-        )?;
-        k += 1;
+    }
+    Ok(())
+}
+
+// What changed since a machine stood so, with these words in its ports.
+pub(super) fn since(
+    output: &mut impl Write,
+    old: Standing,
+    held: &[u32; 320],
+    machine: &Machine,
+) -> io::Result<()> {
+    let table = &machine.table;
+    let new = machine.standing;
+    number(output, "count", old.clock, new.clock)?;
+    number(output, "remaining", old.remaining, new.remaining)?;
+    mode(output, table, old.mode, new.mode)?;
+    ports(output, table, held, &machine.ports)?;
+    if old.out != new.out {
+        list(output, "  out:", table, new.out)?;
+    }
+    if old.waiting != new.waiting {
+        list(output, "  waiting:", table, new.waiting)?;
+    }
+    if old.stopped != new.stopped {
+        writeln!(output, "  stopped: yes")?;
     }
     Ok(())
 }
 
 // ---- all of it
 
-fn numbered(output: &mut impl Write, name: &[u8], number: u32) -> io::Result<()> {
-    pieces::put(output, name)?;
-    pieces::number(output, number as u64)?;
-    pieces::put(output, b"\n")
-}
-
-// The clock, the mode, the lists of tasks, and whether the machine is stopped.
-pub(super) fn standing<'a>(
-    output: &mut impl Write,
-    mode_names: &'a [u8],
-    task_names: &'a [u8],
-    seen: Standing,
-) -> io::Result<()> {
-    numbered(output, b"count ", seen.clock)?;
-    numbered(output, b"remaining ", seen.remaining)?;
-    pieces::put(output, b"mode ")?;
-    pieces::mode(output, mode_names, seen.mode)?;
-    list(output, b"\nout:", task_names, seen.out)?;
-    list(output, b"waiting:", task_names, seen.waiting)?;
-    if seen.stopped {
-        return pieces::put(output, b"stopped: yes\n");
-    }
-    pieces::put(output, b"stopped: no\n")
-}
-
-// Every port and what it holds.
-pub(super) fn held<'a>(
-    output: &mut impl Write,
-    roles: &'a [u32],
-    types: &'a [u32],
-    ports: &'a [u32],
-    sensors: u32,
-    actuators: u32,
-    tasks: u32,
-    sensor_names: &'a [u8],
-    actuator_names: &'a [u8],
-    task_names: &'a [u8],
-    output_names: &'a [u8],
-    task_rows: &'a [u32],
-) -> io::Result<()> {
-    let mut k = 0u32;
-    while k < 320 {
-        let place = cells::wide32(k);
-        if cells::at32(roles, place) == 0 {
-            return Ok(());
-        }
-        pieces::port(
-            output,
-            k,
-            sensors,
-            actuators,
-            tasks,
-            sensor_names,
-            actuator_names,
-            task_names,
-            output_names,
-            task_rows,
-        )?;
-        pieces::put(output, b" ")?;
-        pieces::value(output, cells::at32(types, place), cells::at32(ports, place))?;
-        pieces::put(output, b"\n")?;
-        k += 1;
+// The clock, the mode, the lists of tasks, whether the machine is stopped, and every port and what it holds.
+pub(super) fn all(output: &mut impl Write, machine: &Machine) -> io::Result<()> {
+    let table = &machine.table;
+    let seen = machine.standing;
+    write!(
+        output,
+        "count {}\nremaining {}\nmode ",
+        seen.clock, seen.remaining
+    )?;
+    names::mode(output, table, seen.mode)?;
+    writeln!(output)?;
+    list(output, "out:", table, seen.out)?;
+    list(output, "waiting:", table, seen.waiting)?;
+    writeln!(
+        output,
+        "stopped: {}",
+        if seen.stopped { "yes" } else { "no" }
+    )?;
+    for number in 0..names::ports(table) {
+        let place = number as usize;
+        let typ = cells::at32(&table.types, place);
+        let word = cells::at32(&machine.ports, place);
+        names::port(output, table, number)?;
+        writeln!(output, " {}", names::Value { typ, word })?;
     }
     Ok(())
 }

@@ -1,92 +1,94 @@
-// Values by name: cells in rows of 32, the types, the words, and the types and words of the readings that are kept.
-ghost use Rattle.std.specs.Prelude.{◌≡◌, length};
+// Values by name: the types and words of one call, as many as a task or the sensors can have.
+use super::asking::{Cause, Wrong};
+use super::words::{self, Words};
 
-use super::scripts::{Call, bad, good};
-use super::words;
-use lines::Part;
-
-// One NAME=VALUE, into the cells of its name; an empty word is none.
-fn pair<'a>(
-    line: &'a [u8],
-    word: Part,
-    names: &'a [u8],
-    paired: bool,
-    first: u32,
-    many: u32,
-    unknown: u8,
-    values: &mut [u32],
-) -> Call {
-    let from = word.from;
-    let to = word.to;
-    if from == to {
-        return good(0, 0, 0);
-    }
-    let sign = words::sign(line, from, to);
-    if sign == to {
-        return bad(3, from, to);
-    }
-    let name = Part {
-        from: from,
-        to: sign,
-        next: sign,
-    };
-    let k = words::find(line, name, names, paired, first, many);
-    if k == many {
-        return bad(unknown, from, sign);
-    }
-    let value = words::spelled(line, sign + 1, to);
-    if !value.good {
-        return bad(3, from, to);
-    }
-    let cell = cells::wide32(k);
-    cells::put32(values, cell, value.typ);
-    cells::put32(values, cell + 32, value.word);
-    good(0, 0, 0)
+#[derive(Clone, Copy)]
+pub struct Values {
+    pub types: [u32; 32],
+    pub words: [u32; 32],
 }
 
-// NAME=VALUE words to the end of the line.
-pub(super) fn pairs<'a>(
-    line: &'a [u8],
-    at: usize,
-    names: &'a [u8],
-    paired: bool,
-    first: u32,
-    many: u32,
-    unknown: u8,
-    values: &mut [u32],
-) -> Call {
-    let mut next = at;
-    while next < line.len() {
-        let word = words::word(line, next);
-        let read = pair(line, word, names, paired, first, many, unknown, values);
-        if read.wrong != 0 {
-            return read;
+impl Values {
+    // The types and words from a place on, of as many as there are.
+    pub(super) fn of(types: &[u32], words: &[u32]) -> Values {
+        let mut values = Values {
+            types: [0; 32],
+            words: [0; 32],
+        };
+        for (to, from) in values.types.iter_mut().zip(types) {
+            *to = *from;
         }
-        next = words::onward(next, word.next, line.len());
+        for (to, from) in values.words.iter_mut().zip(words) {
+            *to = *from;
+        }
+        values
     }
-    good(0, 0, 0)
+
+    // What the NAME=VALUE words at the end of a line change.
+    pub(super) fn changed<'a>(
+        mut self,
+        rest: Words<'a>,
+        names: &Names<'_>,
+        unknown: Cause,
+    ) -> Result<Values, Wrong<'a>> {
+        for word in rest.rest.split(|byte| words::is_blank(*byte)) {
+            if !word.is_empty() {
+                self.set(word, names, unknown)?;
+            }
+        }
+        Ok(self)
+    }
+
+    // One NAME=VALUE.
+    fn set<'a>(
+        &mut self,
+        word: &'a [u8],
+        names: &Names<'_>,
+        unknown: Cause,
+    ) -> Result<(), Wrong<'a>> {
+        let wrong = Wrong {
+            cause: Cause::Value,
+            word,
+        };
+        let sign = word.iter().position(|byte| *byte == b'=').ok_or(wrong)?;
+        let name = &word[..sign];
+        let place = names.find(name).ok_or(Wrong {
+            cause: unknown,
+            word: name,
+        })?;
+        let value = words::spelled(&word[sign + 1..]).ok_or(wrong)?;
+        cells::put32(&mut self.types, place as usize, value.typ);
+        cells::put32(&mut self.words, place as usize, value.word);
+        Ok(())
+    }
 }
 
-// 32 cells of a table, into the values from a place on.
-pub(super) fn fetch(from: &[u32], base: u32, values: &mut [u32], at: u8)
-    ensures { length values.new ≡ length values.old }
-{
-    let first = cells::wide32(base);
-    let to = cells::wide8(at);
-    let mut k = 0;
-    while k < 32 {
-        cells::put32(values, to + k, cells::at32(from, first + k));
-        k += 1;
+// Names in rows of a table, one after the other: a row holds a length and 32 bytes; sensors and tasks have two, of which the first is the name.
+#[derive(Clone, Copy)]
+pub struct Names<'a> {
+    pub rows: &'a [u8],
+    pub paired: bool,
+    pub first: usize,
+    pub many: u32,
+}
+
+impl<'a> Names<'a> {
+    // The number of a name among them.
+    pub(super) fn find(&self, name: &[u8]) -> Option<u32> {
+        let width = if self.paired { 66 } else { 33 };
+        let place = self
+            .rows
+            .chunks_exact(width)
+            .skip(self.first)
+            .take(self.many as usize)
+            .position(|row| is_called(row, name))?;
+        u32::try_from(place).ok()
     }
 }
 
-// Two rows of the values, to another place.
-pub(super) fn carry(values: &mut [u32], from: u8, to: u8) {
-    let old = cells::wide8(from);
-    let new = cells::wide8(to);
-    let mut k = 0;
-    while k < 64 {
-        cells::copy32(values, old + k, new + k);
-        k += 1;
+fn is_called(row: &[u8], name: &[u8]) -> bool {
+    match row {
+        [size, bytes @ ..] => bytes.get(..usize::from(*size)) == Some(name),
+        _ => false,
     }
 }

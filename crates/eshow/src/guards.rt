@@ -1,135 +1,64 @@
 // GUARDS: the function of each and its operands, by numbers and, behind //, by names.
-use super::forms;
+use super::names::Port;
+use super::rows::{Guard, Operand};
+use super::values::Value;
 use std::io;
 use std::io::Write;
+use tables::Table;
 
-// The functions by their numbers, then an operand by its name, as `.2` and as a value, and what stands between.
-const NAMED: u32 = 4;
-
-const NUMBERED: u32 = 5;
-
-const FIXED: u32 = 6;
-
-const COMMA: u32 = 7;
-
-const BEGIN: u32 = 8;
-
-const NAMES: u32 = 9;
-
-const END: u32 = 10;
-
-fn say(output: &mut impl Write, form: u32, first: u32, second: u32, book: &[u8]) -> io::Result<()> {
-    let numbers = [first, second];
-    forms::say(
-        output,
-        b"isTrue(\nisFalse(\nless(\nequal(\n_@\n_.%\n*\n, \n  [#] \n) //\n);\n",
-        form,
-        &numbers,
-        book,
-    )
-}
-
-// The form of an operand: a port, which has the place 0, or a fixed value.
-fn form(place: u32, named: bool) -> u32 {
-    if place != 0 {
-        return FIXED;
-    }
-    if named {
-        return NAMED;
-    }
-    NUMBERED
-}
-
+// A port, which has the place 0, or a fixed value of the type that is one less than the place.
 fn operand(
     output: &mut impl Write,
-    place: u32,
-    word: u32,
+    table: &Table,
+    operand: Operand,
     named: bool,
-    book: &[u8],
 ) -> io::Result<()> {
-    say(
-        output,
-        form(place, named),
-        std::num::wrapping_sub_u32(place, 1),
+    let Operand { place, word } = operand;
+    let port = Port::of(table, word);
+    let value = Value {
+        typ: place.saturating_sub(1),
         word,
-        book,
-    )
-}
-
-fn comma(output: &mut impl Write, place: u32, book: &[u8]) -> io::Result<()> {
-    if place != 0 {
-        say(output, COMMA, 0, 0, book)?;
+    };
+    match place {
+        0 if named => write!(output, "{port}"),
+        0 => write!(output, ".{word}"),
+        _ => write!(output, "{value}"),
     }
-    Ok(())
-}
-
-fn operands<'a>(
-    output: &mut impl Write,
-    guard: u32,
-    named: bool,
-    book: &'a [u8],
-    guard_rows: &'a [u32],
-) -> io::Result<()> {
-    let row = 6 * cells::wide32(guard);
-    let many = cells::at32(guard_rows, row + 1);
-    let mut k = 0u32;
-    while k < many {
-        let cell = row + 2 + 2 * cells::wide32(k);
-        comma(output, k, book)?;
-        operand(
-            output,
-            cells::at32(guard_rows, cell),
-            cells::at32(guard_rows, cell + 1),
-            named,
-            book,
-        )?;
-        k += 1;
-    }
-    Ok(())
 }
 
 // A guard up to its last parenthesis; its ports by names or by numbers.
-pub(crate) fn said<'a>(
-    output: &mut impl Write,
-    guard: u32,
-    named: bool,
-    book: &'a [u8],
-    guard_rows: &'a [u32],
-) -> io::Result<()> {
-    say(
-        output,
-        cells::at32(guard_rows, 6 * cells::wide32(guard)),
-        0,
-        0,
-        book,
-    )?;
-    operands(output, guard, named, book, guard_rows)
+fn said(output: &mut impl Write, table: &Table, number: u32, named: bool) -> io::Result<()> {
+    let guard = Guard::of(table, number);
+    let mut before = match guard.function {
+        0 => "isTrue(",
+        1 => "isFalse(",
+        2 => "less(",
+        _ => "equal(",
+    };
+    for &each in guard.operands() {
+        write!(output, "{before}")?;
+        operand(output, table, each, named)?;
+        before = ", ";
+    }
+    write!(output, ")")
 }
 
-fn line<'a>(
-    output: &mut impl Write,
-    guard: u32,
-    book: &'a [u8],
-    guard_rows: &'a [u32],
-) -> io::Result<()> {
-    say(output, BEGIN, guard, 0, book)?;
-    said(output, guard, false, book, guard_rows)?;
-    say(output, NAMES, 0, 0, book)?;
-    said(output, guard, true, book, guard_rows)?;
-    say(output, END, 0, 0, book)
+pub(crate) fn named(output: &mut impl Write, table: &Table, number: u32) -> io::Result<()> {
+    said(output, table, number, true)
 }
 
-pub(crate) fn list<'a>(
-    output: &mut impl Write,
-    guards: u32,
-    book: &'a [u8],
-    guard_rows: &'a [u32],
-) -> io::Result<()> {
-    output.write_all(b"GUARDS\n")?;
-    let mut k = 0u32;
-    while k < guards {
-        line(output, k, book, guard_rows)?;
-        k += 1;
+fn line(output: &mut impl Write, table: &Table, number: u32) -> io::Result<()> {
+    write!(output, "  [{number:03}] ")?;
+    said(output, table, number, false)?;
+    write!(output, " //")?;
+    named(output, table, number)?;
+    writeln!(output)
+}
+
+pub(crate) fn list(output: &mut impl Write, table: &Table) -> io::Result<()> {
+    writeln!(output, "GUARDS")?;
+    for number in 0..table.guards {
+        line(output, table, number)?;
     }
     Ok(())
 }

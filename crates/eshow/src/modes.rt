@@ -1,55 +1,31 @@
 // MODES: the name of each, whether it is the start mode, its period and where its code begins.
-use super::forms;
+use super::names;
+use super::rows::Mode;
 use std::io;
 use std::io::Write;
+use tables::Table;
 
-// Where the code of a mode begins.
-fn begins(mode_rows: &[u32], mode: u32) -> u32 {
-    cells::at32(mode_rows, 3 * cells::wide32(mode) + 2)
-}
-
-fn line<'a>(
-    output: &mut impl Write,
-    mode: u32,
-    book: &'a [u8],
-    mode_rows: &'a [u32],
-) -> io::Result<()> {
-    let row = 3 * cells::wide32(mode);
-    let start = cells::at32(mode_rows, row);
-    let period = cells::at32(mode_rows, row + 1);
-    let numbers = [mode, mode, 1, start, period, begins(mode_rows, mode)];
-    forms::say(
+fn line(output: &mut impl Write, table: &Table, number: u32) -> io::Result<()> {
+    let mode = Mode::of(table, number);
+    let name = names::mode(table, number);
+    let start = mode.start != 0;
+    let period = mode.period;
+    let begin = mode.begin;
+    writeln!(
         output,
-        b"  [#] name=^, start=*, period=%, pcBegin=%;\n",
-        0,
-        &numbers,
-        book,
+        "  [{number:03}] name={name}, start={start}, period={period}, pcBegin={begin}"
     )
 }
 
-pub(crate) fn list<'a>(
-    output: &mut impl Write,
-    modes: u32,
-    book: &'a [u8],
-    mode_rows: &'a [u32],
-) -> io::Result<()> {
-    output.write_all(b"MODES\n")?;
-    let mut k = 0u32;
-    while k < modes {
-        line(output, k, book, mode_rows)?;
-        k += 1;
+pub(crate) fn list(output: &mut impl Write, table: &Table) -> io::Result<()> {
+    writeln!(output, "MODES")?;
+    for number in 0..table.modes {
+        line(output, table, number)?;
     }
     Ok(())
 }
 
-// The first mode whose code begins at a place; as many as there are where none does.
-pub(crate) fn beginning(place: u32, modes: u32, mode_rows: &[u32]) -> u32 {
-    let mut k = 0u32;
-    while k < modes {
-        if begins(mode_rows, k) == place {
-            return k;
-        }
-        k += 1;
-    }
-    modes
+// The first mode whose code begins at a place.
+pub(crate) fn beginning(table: &Table, place: u32) -> Option<u32> {
+    (0..table.modes).find(|&number| Mode::of(table, number).begin == place)
 }

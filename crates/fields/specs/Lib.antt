@@ -1,8 +1,10 @@
+pub mod Outcomes
+pub mod OutcomeLaws
 pub mod Taking
 pub mod TakingLaws
 pub mod RunLaws
-pub mod Fields
+pub mod NumberLaws
 pub mod Forms
 pub mod WholeNames
-pub mod NameLaws
 pub mod CellLaws
+pub mod NameLaws

@@ -1,7 +1,11 @@
 -- How a name is read: its length, its bytes, and whether they are one.
-use Rattle.std.specs.Prelude.{ℕ, zero, suc, ◌+◌, ◌-◌, ◌≤◌, ◌<◌, ◌≡◌, refl, Bool, true, false, cond, leb, List, [], ◌∷◌, ◌++◌, length, get_or, set, take, drop}
-use Rattle.std.proofs.Common.{add-zero, add-one, arith, sym, ap, ◌∙◌, leb-true, take-suc, take_all, length-take-le, get_or-drop, get_or-take}
+use Rattle.std.specs.Prelude.{ℕ, zero, suc, ◌+◌, ◌-◌, ◌≤◌, ◌<◌, ◌≡◌, refl, ◌&&◌, min, eqb, Bool, true, false, cond, leb, List, [], ◌∷◌, ◌++◌, length, get_or, set, take, drop}
+use Rattle.std.proofs.Common.{add-zero, add-one, arith, sym, ap, ◌∙◌, leb-true, take-suc, take_all, zero-add, length-take-le, get_or-drop, get_or-take}
 use Rattle.std.proofs.Math.Seq.{slice, slice_empty, slice-cons, take-nil}
+use Rattle.std.proofs.Math.ListN.{length-set}
+use borrow.Rule.Slice.PartMut.{put_mid}
+use lib.Pointwise.{pointwise}
+use Rattle.model.specs.Bytes.{same}
 use Rattle.codec.specs.Readings.{got, no}
 use Rattle.codec.proofs.Readings.{and_then-got, or_no-got}
 use Rattle.codec.specs.Codecs.{Codec}
@@ -15,6 +19,7 @@ use Rattle.text.specs.Words.{within}
 use Rattle.file.specs.Names.{good_name, name}
 use Rattle.layout.specs.Rows.{name_cells}
 use Rattle.layout.specs.Filling.{stored, stored_more, stored-then}
+use Rattle.fields.specs.CellLaws.{stored-part}
 
 -- ---- bytes one after the other
 
@@ -36,6 +41,15 @@ bytes-short (suc n) s i h = go (length s - i) refl (bytes-short n s (i + 1))
     go : (m : ℕ) → length s - i ≡ m → (length s - (i + 1) < n → many_get byte n (drop (i + 1) s) ≡ no 22) → many_get byte (suc n) (drop i s) ≡ no 22
     go zero e f = rw (byte-missing s i (omega arith)) refl
     go (suc m) e f = rw (byte_at s i (omega arith), f (omega arith)) refl
+
+-- the first n bytes
+pub take-there : (n : ℕ) (s : List ℕ) → n ≤ length s → many_get byte n s ≡ got (take n s) (drop n s)
+take-there n s h = rw zero-add at (bytes-there n s 0 (omega arith))
+
+pub take-short : (n : ℕ) (s : List ℕ) → length s < n → many_get byte n s ≡ no 22
+take-short n s h = bytes-short n s 0 (omega arith)
+
+pub ruleset take_laws = (take-there, take-short)
 
 -- ---- the name behind its length
 
@@ -72,6 +86,29 @@ module _ (bs : List ℕ) where
     pub whole-name : i + n ≤ length s → good_name (slice i (i + n) s) ≡ true → name.get bs ≡ got (slice i (i + n) s) (drop (i + n) s)
     unfolding name
     whole-name h g = check-got _ _ _ (list_on _ _ sized ∙ bytes-there n s i h) g
+
+-- the number of a function's name, by the words that it is compared with
+pub same-is : (a b : List ℕ) → pointwise eqb a b ≡ same a b
+unfolding same
+same-is [] [] = refl
+same-is [] (y ∷ ys) = refl
+same-is (x ∷ xs) [] = refl
+same-is (x ∷ xs) (y ∷ ys) = go (eqb x y) (same-is xs ys)
+  where
+    go : (t : Bool) → pointwise eqb xs ys ≡ same xs ys → (t && pointwise eqb xs ys) ≡ cond t (same xs ys) false
+    go true e = e
+    go false e = refl
+
+pub compared : (word : List ℕ) {l : List ℕ} {b : Bool} (v : List ℕ) → b ≡ pointwise eqb word l → l ≡ v → same word v ≡ b
+compared word v e f = sym (same-is word v) ∙ rw (← f, e) refl
+
+-- ---- a name that is put into its row
+
+pub put-row : (l word part : List ℕ) (place end : ℕ) → place < length l → end ≡ min (length l) (place + 1 + length word) → part ≡ take (end - (place + 1)) word
+    → put_mid (place + 1) (end - (place + 1)) (set l place (length word)) part ≡ stored l place (name_cells word)
+put-row l word part place end h e p =
+    let k : end - (place + 1) ≡ min (length (set l place (length word)) - (place + 1)) (length word) = omega (arith, length-set l place (length word)) in
+    stored-part (set l place (length word)) word part (place + 1) (end - (place + 1)) (omega (arith, length-set l place (length word))) k p ∙ sym (stored-then l place (length word) word)
 
 -- ---- a name that is copied byte by byte
 

@@ -2,9 +2,11 @@
 use Prim.Native.Nat.{ℕ, zero, suc, ◌+◌, ◌≤◌}
 use Prim.Native.Char.{code}
 use native.Mathlib.Omega.{arith}
-use Rattle.std.specs.Prelude.{◌≡◌, Bool, ◌&&◌, not, eqb, ltb, get_or}
+use Rattle.std.specs.Prelude.{◌≡◌, Bool, ◌&&◌, ◌⊎◌, not, eqb, ltb, get_or}
 use Rattle.std.proofs.Math.Path.{refl}
-use Rattle.std.proofs.Common.{sym, ap, ◌∙◌, eq-eqb, ne_eqb, ltb-false, ltb-true, lt-ltb, le-ltb}
+use borrow.Author.Rules.{rules}
+use denote.Enum.Bare.{sameb, same_true}
+use Rattle.std.proofs.Common.{sym, ap, ◌∙◌, ⊎_elim, eq-eqb, ne_eqb, ltb-false, ltb-true, lt-ltb, le-ltb}
 use Rattle.std.proofs.Math.Bool.{true, false, cond}
 use mathlib.Core.List.{List, [], ◌∷◌}
 use Rattle.std.proofs.Math.ListN.{length, get_or-eq_default}
@@ -14,6 +16,8 @@ use Rattle.codec.proofs.Codecs.{and_left, and_right, and_both}
 use Rattle.model.specs.Bytes.{place_in}
 use Rattle.text.specs.declared.Skipped.{Skipped}
 use Rattle.text.specs.declared.Skipped.TheVariants.{Stop, Open}
+use Rattle.text.specs.contracts.Token.{the_type}
+use Rattle.text.specs.declared.Lexed.{Lexed}
 use Rattle.text.specs.declared.Token.{Token}
 use Rattle.text.specs.Spaces.{white, spaces_at, spaces}
 use Rattle.text.proofs.SpacesLaws.{spaces-other}
@@ -189,17 +193,26 @@ token-name (b ∷ bs) e z h =
 
 -- ---- the scanner's word on it
 
-module _ (w : List ℕ) where
-  pub no_name : (good_name w ≡ true → ⊥) → false ≡ good_name w
-  no_name h = by_flag (good_name w) (λ b. false ≡ b) (λ e. absurd (h e)) (λ e. refl)
+is_name : {token : Token} → false ≡ not (sameb the_type token Token.Name) → token ≡ Token.Name
+is_name {token} e = same_true the_type (search rules) token Token.Name (go (sameb the_type token Token.Name) e)
+  where
+    go : (b : Bool) → false ≡ not b → b ≡ true
+    go true e = refl
+    go false e = never (sym e)
 
-  pub other-token : (code_of (token_at w 0).token ≡ 0 → ⊥) → false ≡ good_name w
-  other-token h = no_name (λ g. h (ap (λ x. code_of x.token) (name-token w g)))
+module _ (w : List ℕ) (x : Lexed) (scanned : x ≡ token_at w 0) where
+  pub unnamed : {b : Bool} → b ≡ not (sameb the_type x.token Token.Name) → (b ≡ true) ⊎ ((b ≡ false) × (x.start ≡ 0 → ⊥)) → false ≡ good_name w
+  unnamed {b} e h =
+      by_flag (good_name w) (λ t. false ≡ t)
+      (λ g.
+      let n = scanned ∙ name-token w g in
+      ⊎_elim (λ (p : b ≡ true). never (sym p ∙ e ∙ ap (λ (y : Lexed). not (sameb the_type y.token Token.Name)) n))
+      (λ (p : (b ≡ false) × (x.start ≡ 0 → ⊥)). absurd (p.1 (ap (λ (y : Lexed). y.start) n))) h)
+      (λ g. refl)
 
-  pub later-token : ((token_at w 0).start ≡ 0 → ⊥) → false ≡ good_name w
-  later-token h = no_name (λ g. h (ap (λ x. x.start) (name-token w g)))
-
-  pub same-token : code_of (token_at w 0).token ≡ 0 → (token_at w 0).start ≡ 0 → eqb (token_at w 0).end (length w) ≡ good_name w
-  same-token e z =
-      by_flag (good_name w) (λ b. eqb (token_at w 0).end (length w) ≡ b) (λ g. eq-eqb _ _ (ap (λ x. x.end) (name-token w g)))
-      (λ g. ne_eqb _ _ (λ h. never (sym (token-name w e z h) ∙ g)))
+  pub named : false ≡ not (sameb the_type x.token Token.Name) → x.start ≡ 0 → eqb x.end (length w) ≡ good_name w
+  named e z =
+      let t : code_of (token_at w 0).token ≡ 0 = ap (λ (y : Lexed). code_of y.token) (sym scanned) ∙ ap code_of (is_name e) in
+      let o : (token_at w 0).start ≡ 0 = ap (λ (y : Lexed). y.start) (sym scanned) ∙ z in
+      by_flag (good_name w) (λ b. eqb x.end (length w) ≡ b) (λ g. eq-eqb _ _ (ap (λ (y : Lexed). y.end) (scanned ∙ name-token w g)))
+      (λ g. ne_eqb _ _ (λ h. never (sym (token-name w t o (ap (λ (y : Lexed). y.end) (sym scanned) ∙ h)) ∙ g)))

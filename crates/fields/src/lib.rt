@@ -1,172 +1,71 @@
-// The fields of a file's records, read at a place: numbers, counts, types, values, arguments and names.
-// Promises: each answers what its codec reads there, at every place; a refusal that came before is handed on.
-// Builds on the codecs of file, on the scanner and on cells.
+// The fields of a file's records, read one after the other: numbers, counts, types, values, arguments and names.
+// Promises: each reads what its codec reads at the front of the bytes that are left, or gives the number of its refusal.
+// Builds on the codecs of file and on the scanner.
 #![tactic(auto)]
 
-ghost use Rattle.std.specs.Prelude.{◌≡◌, ◌-◌, ◌<◌, length};
+ghost use Rattle.std.specs.Prelude.{◌≡◌, Ok, Err, if◌then◌else◌};
 ghost use Rattle.codec.specs.Numbers.{byte as one_byte, be};
-ghost use Rattle.text.specs.Words.{within as is_within};
-ghost use Rattle.fields.specs.Fields.{Reads, Checked};
+ghost use Rattle.fields.specs.Outcomes.{Reads};
 
 mod names;
 mod tested;
 
-pub use names::{function, name};
-pub use tested::{count, first, flag, kind, opcode, second, share, small_count, time, value};
+use file::Refused;
+pub use names::put_name;
 
-// A refusal, or 0 and the place behind what was read.
-#[derive(Clone, Copy)]
-pub struct Got {
-    pub bad: u8,
-    pub next: usize,
+// The bytes of a file that are still to be read.
+#[derive(Drop)]
+pub struct Cursor<'a> {
+    pub rest: &'a [u8],
 }
 
-// The same with the number of the records that were read.
-#[derive(Clone, Copy)]
-pub struct Counted {
-    pub bad: u8,
-    pub next: usize,
-    pub count: u32,
-}
-
-// The same with the number that was read.
-#[derive(Clone, Copy)]
-pub struct Number {
-    pub bad: u8,
-    pub next: usize,
-    pub value: u32,
-}
-
-// The same with the place where the bytes of a name begin.
-#[derive(Clone, Copy)]
-pub struct Span {
-    pub bad: u8,
-    pub next: usize,
-    pub from: usize,
-}
-
-// ---- numbers
-
-fn wide(number: u8) -> u32
-    ensures { (result ≡ number) × (result < 256) }
-{
-    number as u32
-}
-
-// How many bytes stand from a place on.
-pub fn left(s: &[u8], at: usize) -> usize
-    ensures { result ≡ length s.now - at }
-{
-    if at < s.len() { s.len() - at } else { 0 }
-}
-
-pub fn byte(s: &[u8], bad: u8, next: usize) -> Number
-    ensures reads { Reads s.now one_byte bad next result }
-    ensures value_bound { result.value < 256 }
-{
-    if bad != 0 {
-        return Number {
-            bad: bad,
-            next: next,
-            value: 0,
-        };
+#[tactic(auto, using(crate::specs::NumberLaws::number_laws))]
+impl<'a> Cursor<'a> {
+    pub fn byte(&mut self) -> Result<u8, Refused>
+        ensures { Reads one_byte self.old.rest.now result self.new.rest.now }
+    {
+        match self.rest {
+            [value, rest @ ..] => {
+                self.rest = rest;
+                Ok(*value)
+            }
+            [] => Err(Refused { number: 22 }),
+        }
     }
-    if left(s, next) < 1 {
-        return Number {
-            bad: 22,
-            next: next,
-            value: 0,
-        };
+
+    // A number of two bytes, and of four, the highest first.
+    pub fn pair(&mut self) -> Result<u16, Refused>
+        ensures { Reads (be 2) self.old.rest.now result self.new.rest.now }
+    {
+        match self.rest {
+            [high, low, rest @ ..] => {
+                self.rest = rest;
+                Ok(u16::from_be_bytes([*high, *low]))
+            }
+            _ => Err(Refused { number: 22 }),
+        }
     }
-    Number {
-        bad: 0,
-        next: next + 1,
-        value: wide(s[next]),
+
+    pub fn quad(&mut self) -> Result<u32, Refused>
+        ensures { Reads (be 4) self.old.rest.now result self.new.rest.now }
+    {
+        match self.rest {
+            [highest, high, low, lowest, rest @ ..] => {
+                self.rest = rest;
+                Ok(u32::from_be_bytes([*highest, *high, *low, *lowest]))
+            }
+            _ => Err(Refused { number: 22 }),
+        }
     }
 }
 
-// A number of two bytes, and of four, the highest first.
-pub fn pair(s: &[u8], bad: u8, next: usize) -> Number
-    ensures reads { Reads s.now (be 2) bad next result }
-    ensures value_bound { result.value < 65536 }
-{
-    if bad != 0 {
-        return Number {
-            bad: bad,
-            next: next,
-            value: 0,
-        };
-    }
-    if left(s, next) < 2 {
-        return Number {
-            bad: 22,
-            next: next,
-            value: 0,
-        };
-    }
-    let high = wide(s[next]);
-    let low = wide(s[next + 1]);
-    Number {
-        bad: 0,
-        next: next + 2,
-        value: high * 256 + low,
-    }
-}
-
-pub fn quad(s: &[u8], bad: u8, next: usize) -> Number
-    ensures { Reads s.now (be 4) bad next result }
-{
-    if bad != 0 {
-        return Number {
-            bad: bad,
-            next: next,
-            value: 0,
-        };
-    }
-    if left(s, next) < 4 {
-        return Number {
-            bad: 22,
-            next: next,
-            value: 0,
-        };
-    }
-    let highest = wide(s[next]);
-    let high = wide(s[next + 1]);
-    let low = wide(s[next + 2]);
-    let lowest = wide(s[next + 3]);
-    Number {
-        bad: 0,
-        next: next + 4,
-        value: highest * 16777216 + (high * 65536 + (low * 256 + lowest)),
-    }
-}
-
-// ---- under a test
-
-// A number that passes, or a refusal.
-fn checked(number: Number, fine: bool, refusal: u8) -> Number
-    requires { 0 < refusal }
-    ensures { Checked number fine refusal result }
+// A number that passes its test, or a refusal.
+fn checked<T: Copy>(value: T, fine: bool, number: u8) -> Result<T, Refused>
+    ensures { result ≡ (if fine then Ok value else Err (record { number = number })) }
 {
     if fine {
-        return number;
+        Ok(value)
+    } else {
+        Err(Refused { number })
     }
-    if number.bad != 0 {
-        return Number {
-            bad: number.bad,
-            next: number.next,
-            value: 0,
-        };
-    }
-    Number {
-        bad: refusal,
-        next: number.next,
-        value: 0,
-    }
-}
-
-fn within(low: u32, high: u32, number: u32) -> bool
-    ensures { result ≡ is_within low high number }
-{
-    if low <= number { number <= high } else { false }
 }

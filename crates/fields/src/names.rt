@@ -1,143 +1,107 @@
 // Names: read, judged, and put into rows of cells.
-ghost use Rattle.std.specs.Prelude.{◌≡◌, ◌+◌, ◌≤◌, length, set};
-ghost use Rattle.std.proofs.Math.Seq.{slice};
+ghost use Rattle.std.specs.Prelude.{◌≡◌, ◌≤◌, ◌<◌, length, IfOk};
 ghost use Rattle.codec.specs.Numbers.{byte as one_byte};
 ghost use Rattle.codec.specs.Views.{check};
+ghost use Rattle.codec.specs.Lists.{many_get};
+ghost use Rattle.codec.specs.Readings.{and_then, got};
 ghost use Rattle.model.specs.Bytes.{place_in};
 ghost use Rattle.model.specs.Values.{function_names};
 ghost use Rattle.text.specs.Words.{within as is_within};
 ghost use Rattle.file.specs.Names.{good_name, name as name_of};
 ghost use Rattle.layout.specs.Rows.{name_cells};
 ghost use Rattle.layout.specs.Filling.{stored};
-ghost use Rattle.fields.specs.Taking.{at, Takes};
-ghost use Rattle.fields.specs.Fields.{Reads, Names};
+ghost use Rattle.fields.specs.Outcomes.{outcome, Reads};
 
-use super::{Got, Number, Span, byte, checked, left, within};
+use super::{Cursor, checked};
+use file::Refused;
+use text::Token;
+
+impl<'a> Cursor<'a> {
+    fn size(&mut self) -> Result<u8, Refused>
+        ensures reads { Reads (check one_byte 23 (is_within 1 32)) self.old.rest.now result self.new.rest.now }
+        ensures value_bound { IfOk result (λ v. v ≤ 32) }
+    {
+        let size = self.byte()?;
+        checked(size, is_size(size), 23)
+    }
+
+    #[tactic(auto, using(crate::specs::NameLaws::take_laws))]
+    fn take(&mut self, many: usize) -> Result<&'a [u8], Refused>
+        ensures reads { many_get one_byte many self.old.rest.now ≡ outcome (λ w. w.now) result self.new.rest.now }
+        ensures many { IfOk result (λ w. length w.now ≡ many) }
+    {
+        if self.rest.len() < many {
+            return Err(Refused { number: 22 });
+        }
+        let (front, rest) = self.rest.split_at(many);
+        self.rest = rest;
+        Ok(front)
+    }
+
+    pub fn name(&mut self) -> Result<&'a [u8], Refused>
+        ensures reads { name_of.get self.old.rest.now ≡ outcome (λ w. w.now) result self.new.rest.now }
+        ensures short { IfOk result (λ w. length w.now ≤ 32) }
+    {
+        let size = self.size()?;
+        let word = self.take(size as usize)?;
+        checked(word, good_name(word), 23)
+    }
+
+    // A guard's function, by its number.
+    pub fn function(&mut self) -> Result<u32, Refused>
+        ensures { and_then (name_of.get self.old.rest.now) (λ word rest. got (place_in function_names 0 word) rest) ≡ outcome (λ v. v) result self.new.rest.now }
+    {
+        let word = self.name()?;
+        Ok(function_number(word))
+    }
+}
+
+fn is_size(size: u8) -> bool
+    ensures { result ≡ is_within 1 32 size }
+{
+    (1..=32).contains(&size)
+}
 
 // Whether some bytes are a name: what the scanner takes for one, from the first byte to the last.
 fn good_name(word: &[u8]) -> bool
     ensures { result ≡ good_name word.now }
 {
     let lexed = scan::token(word, 0);
-    let token = lexed.token;
-    if scan::code(token) != 0 {
-        return false;
-    }
-    if lexed.start != 0 {
+    if lexed.token != Token::Name || lexed.start != 0 {
         return false;
     }
     lexed.end == word.len()
 }
 
-fn size(s: &[u8], bad: u8, next: usize) -> Number
-    ensures reads { Reads s.now (check one_byte 23 (is_within 1 32)) bad next result }
-    ensures value_bound { result.value ≤ 32 }
+// The number of the guard's function of this name; 4 where there is none.
+fn function_number(word: &[u8]) -> u32
+    ensures { result ≡ place_in function_names 0 word.now }
 {
-    let n = byte(s, bad, next);
-    let fine = within(1, 32, n.value);
-    checked(n, fine, 23)
-}
-
-// A name.
-pub fn word(s: &[u8], bad: u8, next: usize) -> Span
-    ensures { Names s.now bad next result }
-{
-    let n = size(s, bad, next);
-    let from = n.next;
-    if n.bad != 0 {
-        return Span {
-            bad: n.bad,
-            next: 0,
-            from: 0,
-        };
-    }
-    let many = cells::wide32(n.value);
-    if left(s, from) < many {
-        return Span {
-            bad: 22,
-            next: 0,
-            from: 0,
-        };
-    }
-    let end = from + many;
-    if good_name(&s[from..end]) {
-        return Span {
-            bad: 0,
-            next: end,
-            from: from,
-        };
-    }
-    Span {
-        bad: 23,
-        next: 0,
-        from: 0,
+    if word == b"isTrue".as_slice() {
+        0
+    } else if word == b"isFalse".as_slice() {
+        1
+    } else if word == b"less".as_slice() {
+        2
+    } else if word == b"equal".as_slice() {
+        3
+    } else {
+        4
     }
 }
 
-// A byte, to the cell that stands `k` behind a place.
-fn put(names: &mut [u8], place: usize, k: usize, byte: u8)
-    ensures { names.new ≡ set names.old (place + k) byte }
+// A name, to the row of cells that begins at a place; one of more than 32 bytes is no name and goes nowhere.
+pub fn put_name(names: &mut [u8], place: usize, word: &[u8])
+    ensures row { length word.now ≤ 32 → names.new ≡ stored names.old place (name_cells word.now) }
+    ensures room { 32 < length word.now → names.new ≡ names.old }
 {
-    if k < left(names, place) {
-        cells::put8(names, place + k, byte);
+    if 32 < word.len() {
+        return;
     }
-}
-
-// The bytes from `from` up to `end`, to the cells behind a place.
-fn copy(s: &[u8], from: usize, end: usize, place: usize, names: &mut [u8])
-    requires { (from ≤ end) × (end ≤ length s.now) }
-    ensures { names.new ≡ stored names.old (place + 1) (slice from end s.now) }
-{
-    let many = end - from;
-    let mut k = 0;
-    while k < many {
-        put(names, place, k + 1, s[from + k]);
-        k += 1;
-    }
-}
-
-// A name, to the row of 33 cells that begins at a place.
-pub fn name(s: &[u8], bad: u8, next: usize, place: usize, names: &mut [u8]) -> Got
-    ensures { Takes s.now name_of (λ word l. stored l place (name_cells word)) (at bad next names.old) (at result.bad result.next names.new) }
-{
-    let w = word(s, bad, next);
-    let size = w.next - w.from;
-    put(names, place, 0, size as u8);
-    copy(s, w.from, w.next, place, names);
-    Got {
-        bad: w.bad,
-        next: w.next,
-    }
-}
-
-// The number of the guard's function that the bytes from `from` up to `end` name; 4 where they name none.
-fn function_number(s: &[u8], from: usize, end: usize) -> u32
-    ensures { result ≡ place_in function_names 0 (slice from end s.now) }
-{
-    if scan::same(s, from, end, b"isTrue") {
-        return 0;
-    }
-    if scan::same(s, from, end, b"isFalse") {
-        return 1;
-    }
-    if scan::same(s, from, end, b"less") {
-        return 2;
-    }
-    if scan::same(s, from, end, b"equal") {
-        return 3;
-    }
-    4
-}
-
-// A guard's function, by its number.
-pub fn function(s: &[u8], bad: u8, next: usize) -> Number
-    ensures { Takes s.now name_of (λ word old. place_in function_names 0 word) (at bad next 0) (at result.bad result.next result.value) }
-{
-    let w = word(s, bad, next);
-    let number = function_number(s, w.from, w.next);
-    Number {
-        bad: w.bad,
-        next: w.next,
-        value: number,
+    if place < names.len() {
+        let from = place + 1;
+        let end = names.len().min(from + word.len());
+        names[place] = word.len() as u8;
+        names[from..end].copy_from_slice(&word[..end - from]);
     }
 }

@@ -3,16 +3,15 @@
 // Builds on codec, model and text.
 #![tactic(auto)]
 
+// A refusal, by its number in document 01.
+#[derive(Clone, Copy, PartialEq, Eq)]
+pub struct Refused {
+    pub number: u8,
+}
+
 // The reader returns a table, which stands beside this answer, or one number and no table.
 #[derive(Clone, Copy)]
 pub enum ReadAnswer {
     Read,
-    Refused(u8),
-}
-
-// Writing a table alone gives the length of its file, or one number.
-#[derive(Clone, Copy)]
-pub enum WriteAnswer {
-    Wrote(usize),
     Refused(u8),
 }

@@ -1,11 +1,12 @@
 -- The bytes of a whole file, by the arrays of a table, whatever these hold.
-use Rattle.std.specs.Prelude.{ℕ, ◌+◌, ◌-◌, ◌%◌, ◌≡◌, refl, List, [], ◌++◌, length, take}
+use Rattle.std.specs.Prelude.{ℕ, ◌-◌, ◌%◌, ◌≡◌, refl, List, [], ◌++◌, length, take}
 use Rattle.std.proofs.Common.{ap, ◌∙◌}
 use Rattle.tables.specs.declared.Table.{Table as Plain}
 use Rattle.layout.specs.Filling.{stored}
 use Rattle.writing.specs.Puts.{behind}
 use Rattle.writing.specs.Cells.{byte_of, quad_of, name_in, sensors_in, actuators_in, TaskArrays, tasks_in, drivers_in, guards_in, modes_in, code_in}
-use Rattle.filing.specs.declared.Counts.{Counts}
+use Rattle.writing.specs.declared.Counts.{Counts}
+use Rattle.writing.specs.declared.Arrays.{Arrays}
 
 -- the arrays of a table that hold its tasks
 abbrev pub task_arrays : Plain → TaskArrays
@@ -73,6 +74,12 @@ table_by counts name sensor_names actuator_names task_names output_names mode_na
       mode_rows = mode_rows;
       code = code;
     }
+
+-- the table that stands in these arrays
+abbrev pub table_of : Arrays → Plain
+table_of t =
+    table_by t.counts t.name.now t.sensor_names.now t.actuator_names.now t.task_names.now t.output_names.now t.mode_names.now t.types.now t.starts.now
+    t.task_rows.now t.driver_rows.now t.guard_rows.now t.mode_rows.now t.code.now
 
 -- how many rows of each array of a table are used
 abbrev pub counts_of : Plain → Counts

@@ -3,129 +3,49 @@
 // Builds on writing.
 #![tactic(auto)]
 
-ghost use Rattle.std.specs.Prelude.{◌≡◌};
-ghost use Rattle.writing.specs.Puts.{Puts};
-ghost use Rattle.filing.specs.Whole.{ports_in, rest_in, table_by, Filed};
+ghost use Rattle.writing.specs.Wrote.{Wrote};
+ghost use Rattle.filing.specs.Whole.{ports_in, rest_in, table_of, Filed};
 
 use tables::Table;
-
-// How many rows of each array are used.
-#[derive(Clone, Copy)]
-pub struct Counts {
-    pub sensors: u32,
-    pub actuators: u32,
-    pub tasks: u32,
-    pub drivers: u32,
-    pub guards: u32,
-    pub modes: u32,
-    pub instructions: u32,
-}
+use writing::numbers::Out;
+use writing::{Arrays, Counts};
 
 // The version, the module's name, sensors and actuators.
-fn put_ports<'a>(
-    buffer: &mut [u8],
-    at: usize,
-    name: &'a [u8],
-    sensor_names: &'a [u8],
-    actuator_names: &'a [u8],
-    types: &'a [u32],
-    starts: &'a [u32],
-    sensors: u32,
-    actuators: u32,
-) -> usize
-    ensures { Puts buffer.old at (ports_in name.now sensor_names.now actuator_names.now types.now starts.now sensors actuators) buffer.new result }
+fn put_ports(out: &mut Out<'_>, t: &Arrays<'_>)
+    ensures { Wrote out.old (ports_in t.now.name.now t.now.sensor_names.now t.now.actuator_names.now t.now.types.now t.now.starts.now t.now.counts.sensors t.now.counts.actuators) out.new }
 {
-    let headed = writing::names::head(buffer, at, name);
-    let sensed = writing::ports::sensors(buffer, headed, sensor_names, types, sensors);
-    writing::ports::actuators(
-        buffer,
-        sensed,
-        actuator_names,
-        types,
-        starts,
-        sensors,
-        actuators,
-    )
+    out.head(t.name);
+    writing::ports::sensors(out, t);
+    writing::ports::actuators(out, t);
 }
 
 // Drivers, guards, modes and code.
-fn put_rest<'a>(
-    buffer: &mut [u8],
-    at: usize,
-    driver_rows: &'a [u32],
-    guard_rows: &'a [u32],
-    mode_names: &'a [u8],
-    mode_rows: &'a [u32],
-    code: &'a [u32],
-    counts: Counts,
-) -> usize
-    ensures { Puts buffer.old at (rest_in driver_rows.now guard_rows.now mode_names.now mode_rows.now code.now counts.drivers counts.guards counts.modes counts.instructions) buffer.new result }
+fn put_rest(out: &mut Out<'_>, t: &Arrays<'_>)
+    ensures { Wrote out.old (rest_in t.now.driver_rows.now t.now.guard_rows.now t.now.mode_names.now t.now.mode_rows.now t.now.code.now t.now.counts.drivers t.now.counts.guards t.now.counts.modes t.now.counts.instructions) out.new }
 {
-    let driven = writing::drivers::drivers(buffer, at, driver_rows, counts.drivers);
-    let guarded = writing::guards::guards(buffer, driven, guard_rows, counts.guards);
-    let moded = writing::modes::modes(buffer, guarded, mode_names, mode_rows, counts.modes);
-    writing::modes::code(buffer, moded, code, counts.instructions)
+    writing::drivers::drivers(out, t);
+    writing::guards::guards(out, t);
+    writing::modes::modes(out, t);
+    writing::modes::code(out, t);
 }
 
 // The file of the table that stands in these arrays, to the front of a buffer; the place behind it.
-pub fn file_of<'a>(
-    counts: Counts,
-    name: &'a [u8],
-    sensor_names: &'a [u8],
-    actuator_names: &'a [u8],
-    task_names: &'a [u8],
-    output_names: &'a [u8],
-    mode_names: &'a [u8],
-    types: &'a [u32],
-    starts: &'a [u32],
-    task_rows: &'a [u32],
-    driver_rows: &'a [u32],
-    guard_rows: &'a [u32],
-    mode_rows: &'a [u32],
-    code: &'a [u32],
-    buffer: &mut [u8],
-) -> usize
-    ensures { Filed buffer.old (table_by counts name.now sensor_names.now actuator_names.now task_names.now output_names.now mode_names.now types.now starts.now task_rows.now driver_rows.now guard_rows.now mode_rows.now code.now) buffer.new result }
+pub fn file_of(t: &Arrays<'_>, buffer: &mut [u8]) -> usize
+    ensures { Filed buffer.old (table_of t.now) buffer.new result }
 {
-    let ported = put_ports(
-        buffer,
-        4,
-        name,
-        sensor_names,
-        actuator_names,
-        types,
-        starts,
-        counts.sensors,
-        counts.actuators,
-    );
-    let tasked = writing::tasks::tasks(
-        buffer,
-        ported,
-        task_names,
-        output_names,
-        types,
-        starts,
-        task_rows,
-        counts.tasks,
-    );
-    let end = put_rest(
-        buffer,
-        tasked,
-        driver_rows,
-        guard_rows,
-        mode_names,
-        mode_rows,
-        code,
-        counts,
-    );
-    let size = ((end - 4) % 4294967296) as u32;
-    writing::numbers::quad(buffer, 0, size);
+    let mut out = Out { buffer, at: 4 };
+    put_ports(&mut out, t);
+    writing::tasks::tasks(&mut out, t);
+    put_rest(&mut out, t);
+    let end = out.at;
+    out.at = 0;
+    out.quad(((end - 4) % 4294967296) as u32);
     end
 }
 
 // The file of a table, to the front of a buffer; the place behind it.
-pub fn file(t: Table, buffer: &mut [u8]) -> usize
-    ensures { Filed buffer.old t buffer.new result }
+pub fn file(t: &Table, buffer: &mut [u8]) -> usize
+    ensures { Filed buffer.old t.now buffer.new result }
 {
     let counts = Counts {
         sensors: t.sensors,
@@ -136,34 +56,21 @@ pub fn file(t: Table, buffer: &mut [u8]) -> usize
         modes: t.modes,
         instructions: t.instructions,
     };
-    let name = t.name;
-    let sensor_names = t.sensor_names;
-    let actuator_names = t.actuator_names;
-    let task_names = t.task_names;
-    let output_names = t.output_names;
-    let mode_names = t.mode_names;
-    let types = t.types;
-    let starts = t.starts;
-    let task_rows = t.task_rows;
-    let driver_rows = t.driver_rows;
-    let guard_rows = t.guard_rows;
-    let mode_rows = t.mode_rows;
-    let code = t.code;
-    file_of(
+    let arrays = Arrays {
         counts,
-        &name,
-        &sensor_names,
-        &actuator_names,
-        &task_names,
-        &output_names,
-        &mode_names,
-        &types,
-        &starts,
-        &task_rows,
-        &driver_rows,
-        &guard_rows,
-        &mode_rows,
-        &code,
-        buffer,
-    )
+        name: &t.name,
+        sensor_names: &t.sensor_names,
+        actuator_names: &t.actuator_names,
+        task_names: &t.task_names,
+        output_names: &t.output_names,
+        mode_names: &t.mode_names,
+        types: &t.types,
+        starts: &t.starts,
+        task_rows: &t.task_rows,
+        driver_rows: &t.driver_rows,
+        guard_rows: &t.guard_rows,
+        mode_rows: &t.mode_rows,
+        code: &t.code,
+    };
+    file_of(&arrays, buffer)
 }

@@ -14,7 +14,7 @@ pub fn word(value: Value) -> u32
 {
     match value {
         Value::Int(number) => cells::word_of(number),
-        Value::Flag(flag) => if flag { 1 } else { 0 },
+        Value::Flag(flag) => flag as u32,
     }
 }
 
@@ -22,20 +22,18 @@ pub fn operand_word(ports: &[u32], operand: Operand) -> u32
     ensures { result ≡ operand_word ports.now operand }
 {
     match operand {
-        Operand::Port(number) => cells::at32(ports, cells::wide16(number)),
+        Operand::Port(number) => cells::at32(ports, number as usize),
         Operand::Fixed(value) => word(value),
     }
 }
 
+#[tactic(auto, unfolding(model::specs::Values::holds))]
 pub fn holds(ports: &[u32], guard: Guard) -> bool
     ensures { result ≡ holds_of ports.now guard }
 {
-    let first = guard.first;
-    let second = guard.second;
-    let left = operand_word(ports, first);
-    let right = operand_word(ports, second);
-    let function = guard.function;
-    match function {
+    let left = operand_word(ports, guard.first);
+    let right = operand_word(ports, guard.second);
+    match guard.function {
         Function::IsTrue => left == 1,
         Function::IsFalse => left == 0,
         Function::Less => cells::less(left, right),
@@ -58,13 +56,11 @@ pub fn function_by(number: u32) -> Function
 pub fn operand_by(place: u32, word: u32) -> Operand
     ensures { result ≡ operand_by place word }
 {
-    if place == 0 {
-        return Operand::Port((word % 65536) as u16);
+    match place {
+        0 => Operand::Port((word % 65536) as u16),
+        1 => Operand::Fixed(Value::Int(cells::int_of(word))),
+        _ => Operand::Fixed(Value::Flag(word == 1)),
     }
-    if place == 1 {
-        return Operand::Fixed(Value::Int(cells::int_of(word)));
-    }
-    Operand::Fixed(Value::Flag(word == 1))
 }
 
 // The guard of a number, from rows of 6; past the room one that reads port 0.
@@ -72,19 +68,17 @@ pub fn guard_at(rows: &[u32], guard: u32) -> Guard
     ensures { result ≡ guard_in rows.now guard }
 {
     if guard < 256 {
-        let at = cells::wide32(guard) * 6;
-        let function = function_by(cells::at32(rows, at));
-        let first = operand_by(cells::at32(rows, at + 2), cells::at32(rows, at + 3));
-        let second = operand_by(cells::at32(rows, at + 4), cells::at32(rows, at + 5));
-        return Guard {
-            function: function,
-            first: first,
-            second: second,
-        };
-    }
-    Guard {
-        function: Function::IsTrue,
-        first: Operand::Port(0),
-        second: Operand::Port(0),
+        let at = guard as usize * 6;
+        Guard {
+            function: function_by(cells::at32(rows, at)),
+            first: operand_by(cells::at32(rows, at + 2), cells::at32(rows, at + 3)),
+            second: operand_by(cells::at32(rows, at + 4), cells::at32(rows, at + 5)),
+        }
+    } else {
+        Guard {
+            function: Function::IsTrue,
+            first: Operand::Port(0),
+            second: Operand::Port(0),
+        }
     }
 }

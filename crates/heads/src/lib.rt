@@ -11,26 +11,15 @@ ghost use Rattle.names.specs.Tables.{rows_in};
 ghost use Rattle.names.specs.Index.{Indexed};
 ghost use Rattle.sheets.specs.Sheets.{cap, begun, function_cell, with_operand, with_acting, place_of, word_in};
 
+use numbers::clamp;
 use refusals::Row;
 use sheets::{Acting, Plan};
 use text::{Name, Port};
 
 pub mod counts;
 pub mod numbers;
+pub mod stores;
 pub mod titles;
-
-// What is kept, with this of the activity under way.
-pub fn with_acting(plan: Plan, acting: Acting) -> Plan
-    ensures { result ≡ with_acting plan acting }
-{
-    let filled = plan.filled;
-    let opened = plan.opened;
-    Plan {
-        filled,
-        opened,
-        acting,
-    }
-}
 
 // An activity of a frequency and a guard's function, without operands.
 pub fn begin(frequency: u32, function: u32) -> Acting
@@ -50,55 +39,49 @@ pub fn begin(frequency: u32, function: u32) -> Acting
 pub fn activity_begun(s: &[u8], plan: Plan, digits: Name) -> Plan
     ensures { result ≡ with_acting plan (begun (cap (number_of s.now digits)) 0) }
 {
-    let frequency = numbers::clamp(meanings::number_of(s, digits));
-    with_acting(plan, begin(frequency, 0))
+    let frequency = clamp(meanings::number_of(s, digits));
+    Plan {
+        acting: begin(frequency, 0),
+        ..plan
+    }
 }
 
 // A function's number and 1; one that is not given is the last.
 fn function_cell(number: usize) -> u32
     ensures { result ≡ function_cell number }
 {
-    if number < 3 {
-        return numbers::clamp(number + 1);
-    }
-    4
+    number.min(3) as u32 + 1
 }
 
 pub fn guard_named(s: &[u8], plan: Plan, name: Name) -> Plan
     ensures { result ≡ with_acting plan (begun plan.acting.frequency (function_cell (function_named s.now name))) }
 {
     let function = function_cell(meanings::function_named(s, name));
-    let acting = plan.acting;
-    with_acting(plan, begin(acting.frequency, function))
+    Plan {
+        acting: begin(plan.acting.frequency, function),
+        ..plan
+    }
 }
 
 // An operand's place: 0 a port, 1 an int, 2 a boolean.
 fn place_of(row: Row) -> u32
     ensures { result ≡ place_of row }
 {
-    if row.sort == 0 {
-        if row.typ == 1 {
-            return 2;
-        }
-        return 1;
+    match (row.sort, row.typ) {
+        (0, 1) => 2,
+        (0, _) => 1,
+        _ => 0,
     }
-    0
 }
 
 // An operand's word, or its port.
 fn word_in(row: Row) -> u32
     ensures { result ≡ word_in row }
 {
-    if row.sort == 0 {
-        if row.typ == 1 {
-            if row.value == 1 {
-                return 1;
-            }
-            return 0;
-        }
-        return numbers::clamp(row.value);
+    match (row.sort, row.typ) {
+        (0, 1) => u32::from(row.value == 1),
+        _ => clamp(row.value),
     }
-    numbers::clamp(row.value)
 }
 
 // The activity with one operand more; only the first two are kept.
@@ -106,34 +89,30 @@ fn with_operand(acting: Acting, place: u32, word: u32) -> Acting
     ensures { result ≡ with_operand acting place word }
 {
     if acting.operands == 0 {
-        return Acting {
-            frequency: acting.frequency,
-            function: acting.function,
+        Acting {
             operands: 1,
             first_place: place,
             first_word: word,
-            second_place: acting.second_place,
-            second_word: acting.second_word,
-        };
-    }
-    if acting.operands == 1 {
-        return Acting {
-            frequency: acting.frequency,
-            function: acting.function,
+            ..acting
+        }
+    } else if acting.operands == 1 {
+        Acting {
             operands: 2,
-            first_place: acting.first_place,
-            first_word: acting.first_word,
             second_place: place,
             second_word: word,
-        };
+            ..acting
+        }
+    } else {
+        acting
     }
-    acting
 }
 
 pub fn operand_read(s: &[u8], cells: &[usize], n: usize, plan: Plan, port: Port) -> Plan
     ensures { Indexed s.now cells.now → result ≡ with_acting plan (with_operand plan.acting (place_of (argument_named s.now (rows_in cells.now n) port)) (word_in (argument_named s.now (rows_in cells.now n) port))) }
 {
     let row = meanings::argument_named(s, cells, n, port);
-    let acting = plan.acting;
-    with_acting(plan, with_operand(acting, place_of(row), word_in(row)))
+    Plan {
+        acting: with_operand(plan.acting, place_of(row), word_in(row)),
+        ..plan
+    }
 }

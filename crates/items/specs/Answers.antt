@@ -1,18 +1,21 @@
--- For the enum of the first pass's answers, document 01's number and byte offset for each of its cases.
-use Rattle.std.specs.Prelude.{◌≡◌, refl}
+-- For the first pass's answers, document 01's number and byte offset for each of its cases.
+use Rattle.std.specs.Prelude.{◌≡◌, refl, Result, Ok, Err}
 use Rattle.std.proofs.Math.Option.{Option, none, some}
 use Rattle.text.specs.Items.{Refusal, refuse}
-use Rattle.items.specs.declared.pass.FirstPass.{FirstPass}
-use Rattle.items.specs.declared.pass.FirstPass.TheVariants.{Fine, Refused}
+use Rattle.text.specs.declared.Refusal as code
+
+-- a text free of 2 and 3, or the leftmost of them and its place
+abbrev pub FirstPass : Type 0
+FirstPass = Result (Unit {0}) code.Refusal
 
 abbrev pub refusal_of : FirstPass → Option Refusal
-refusal_of Fine = none
-refusal_of (Refused number at) = refuse number at
+refusal_of (Ok free) = none
+refusal_of (Err refusal) = refuse refusal.number refusal.at
 
 -- the answer for what a text is refused with
 abbrev pub answered : Option Refusal → FirstPass
-answered none = Fine
-answered (some refusal) = Refused refusal.number refusal.offset
+answered none = Ok tt
+answered (some refusal) = Err (record { number = refusal.number; at = refusal.offset })
 
 -- an answer tells what the text is refused with
 pub told : (o : Option Refusal) (r : FirstPass) → r ≡ answered o → o ≡ refusal_of r

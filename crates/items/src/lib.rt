@@ -1,4 +1,4 @@
-// The items of a text, one at a place, and the answers of the first pass over all of them.
+// The items of a text, one at a place.
 // Promises that an item is what text's definition says of its place and state.
 // Builds on productions, wants, scan, text and model.
 #![tactic(auto)]
@@ -6,36 +6,28 @@
 ghost use Rattle.std.specs.Prelude.{◌≡◌};
 ghost use Rattle.text.specs.Items.{item_at};
 
-use productions::{activities, declarations};
-use text::{Got, ReadItem, State};
+use productions::{activities, close, declarations};
+use text::{ReadItem, State};
 
 mod acts;
 mod modes;
 mod modules;
-mod pass;
 mod sections;
 mod tasks;
-
-pub use pass::FirstPass;
 
 // The item at a place, in a state.
 pub fn item(s: &[u8], state: State, at: usize) -> ReadItem
     ensures { result ≡ item_at s.now state at }
 {
-    let g = Got {
-        bad: 0,
-        start: at,
-        end: at,
-    };
     match state {
-        State::Begin => declarations::module(s, g),
-        State::Module(k) => modules::body(s, k, g),
-        State::Task(k) => tasks::body(s, k, g),
-        State::Mode(k) => modes::body(s, k, g),
-        State::Act(k) => acts::act(s, k, g),
-        State::Guarded(k) => acts::guarded(s, k, g),
-        State::GuardArgs(k) => activities::guard_arg(s, k, g),
-        State::Args => activities::arg(s, g),
-        State::Finish => modules::finish(s, g),
+        State::Begin => close(State::Module(1), declarations::module(s, at)),
+        State::Module(k) => modules::body(s, k, at),
+        State::Task(k) => tasks::body(s, k, at),
+        State::Mode(k) => modes::body(s, k, at),
+        State::Act(k) => acts::act(s, k, at),
+        State::Guarded(k) => acts::target(s, k, scan::token(s, at)),
+        State::GuardArgs(k) => activities::guard_arg(s, k, at),
+        State::Args => activities::arg(s, at),
+        State::Finish => modules::finish(s, at),
     }
 }

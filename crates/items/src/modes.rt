@@ -1,49 +1,45 @@
 // The body of a mode.
 ghost use Rattle.std.specs.Prelude.{◌≡◌};
-ghost use Rattle.text.specs.Tokens.{token_at};
-ghost use Rattle.text.specs.Items.{head_at, part_at, mode_body_at};
+ghost use Rattle.text.specs.Expect.{from};
+ghost use Rattle.text.specs.Items.{mode_body_at};
+ghost use Rattle.items.specs.Bodies.{head_of, mode_section_of};
 
 use super::sections;
 use productions::{close, modes};
-use text::{Got, Item, Lexed, ReadItem, State, Token};
+use text::{Item, Lexed, ReadItem, State, Token};
 
-// An activity in section k, where there is a section.
-fn head(s: &[u8], k: u8, g: Got, found: Lexed) -> ReadItem
-    requires { found ≡ token_at s.now g.end }
-    ensures { result ≡ head_at s.now k g }
+// An activity in section k, where there is a section, by its first token, which is found.
+#[tactic(auto, unfolding(crate::specs::Bodies::head_of))]
+fn head(s: &[u8], k: u8, found: Lexed) -> ReadItem
+    ensures { result ≡ head_of s.now k found }
 {
-    if k == 1 {
-        return sections::refused(found);
+    match k {
+        1 => sections::refused(found),
+        _ => close(State::Act(k), modes::activity(s, k, found)),
     }
-    let bracket = wants::given(g, found, Token::LeftBracket);
-    modes::activity(s, k, bracket)
 }
 
-// Section w, in section k.
-fn section(s: &[u8], k: u8, w: u8, g: Got, found: Lexed) -> ReadItem
-    requires { found ≡ token_at s.now g.end }
-    ensures { result ≡ part_at s.now k w g }
+// The section that the token found opens, in section k.
+#[tactic(auto, unfolding(crate::specs::Bodies::mode_section_of))]
+fn section(k: u8, found: Lexed) -> ReadItem
+    ensures { result ≡ mode_section_of k found }
 {
-    if w < k {
-        return sections::refused(found);
+    match sections::of_mode(found.token) {
+        w if w < k => sections::refused(found),
+        5 => close(
+            State::Module(6),
+            sections::token(found, Token::RightBrace, Item::ModeEnd),
+        ),
+        w => close(State::Mode(w), sections::begin(found)),
     }
-    if w == 5 {
-        let brace = wants::given(g, found, Token::RightBrace);
-        return close(Item::ModeEnd, State::Module(6), brace);
-    }
-    let word = wants::given_any(g, found);
-    close(Item::Section, State::Mode(w), word)
 }
 
-pub fn body(s: &[u8], k: u8, g: Got) -> ReadItem
-    ensures { result ≡ mode_body_at s.now k g }
+pub fn body(s: &[u8], k: u8, at: usize) -> ReadItem
+    ensures { result ≡ mode_body_at s.now k (from at) }
 {
-    let at = g.end;
     let found = scan::token(s, at);
-    let token = found.token;
-    let Token::LeftBracket = token else {
-        let w = sections::of_mode(token);
-        return section(s, k, w, g, found);
-    };
-    head(s, k, g, found)
+    match found.token {
+        Token::LeftBracket => head(s, k, found),
+        _ => section(k, found),
+    }
 }

@@ -1,70 +1,59 @@
 // The body of a module.
 ghost use Rattle.std.specs.Prelude.{◌≡◌};
-ghost use Rattle.text.specs.Tokens.{token_at};
-ghost use Rattle.text.specs.Items.{declaration_at, section_at, module_body_at, finish_at};
+ghost use Rattle.text.specs.Expect.{from};
+ghost use Rattle.text.specs.Items.{module_body_at, finish_at};
+ghost use Rattle.items.specs.Bodies.{declaration_of, module_section_of};
 
 use super::sections;
 use productions::{close, declarations, modes, tasks};
-use text::{Got, Item, Lexed, ReadItem, State, Token};
+use text::{Item, Lexed, ReadItem, State, Token};
 
-// A declaration in section k.
-fn declaration(s: &[u8], k: u8, g: Got, found: Lexed) -> ReadItem
-    requires { found ≡ token_at s.now g.end }
-    ensures { result ≡ declaration_at s.now k g }
+// A declaration in section k, by its first token, which is found.
+#[tactic(auto, unfolding(crate::specs::Bodies::declaration_of))]
+fn declaration(s: &[u8], k: u8, found: Lexed) -> ReadItem
+    ensures { result ≡ declaration_of s.now k found }
 {
-    let first = wants::given(g, found, Token::Name);
-    if k == 2 {
-        return declarations::constant(s, first);
+    match k {
+        2 => close(State::Module(2), declarations::constant(s, found)),
+        3 => close(State::Module(3), declarations::sensor(s, found)),
+        4 => close(State::Module(4), declarations::actuator(s, found)),
+        _ => sections::refused(found),
     }
-    if k == 3 {
-        return declarations::sensor(s, first);
-    }
-    if k == 4 {
-        return declarations::actuator(s, first);
-    }
-    sections::refused(found)
 }
 
-// Section w, in section k.
-fn section(s: &[u8], k: u8, w: u8, g: Got, found: Lexed) -> ReadItem
-    requires { found ≡ token_at s.now g.end }
-    ensures { result ≡ section_at s.now k w g }
+// The section that the token found opens, in section k.
+#[tactic(auto, unfolding(crate::specs::Bodies::module_section_of))]
+fn section(s: &[u8], k: u8, found: Lexed) -> ReadItem
+    ensures { result ≡ module_section_of s.now k found }
 {
-    if w < k {
-        return sections::refused(found);
+    match sections::of_module(found.token) {
+        w if w < k => sections::refused(found),
+        5 => close(State::Task(1), tasks::begin(s, found)),
+        6 => close(State::Mode(1), modes::begin(s, found)),
+        7 => close(
+            State::Finish,
+            sections::token(found, Token::RightBrace, Item::ModuleEnd),
+        ),
+        w => close(State::Module(w), sections::begin(found)),
     }
-    if w == 5 {
-        let word = wants::given(g, found, Token::KeyTask);
-        return tasks::begin(s, word);
-    }
-    if w == 6 {
-        return modes::begin(s, g, found);
-    }
-    if w == 7 {
-        let brace = wants::given(g, found, Token::RightBrace);
-        return close(Item::ModuleEnd, State::Finish, brace);
-    }
-    let word = wants::given_any(g, found);
-    close(Item::Section, State::Module(w), word)
 }
 
-pub fn body(s: &[u8], k: u8, g: Got) -> ReadItem
-    ensures { result ≡ module_body_at s.now k g }
+pub fn body(s: &[u8], k: u8, at: usize) -> ReadItem
+    ensures { result ≡ module_body_at s.now k (from at) }
 {
-    let at = g.end;
     let found = scan::token(s, at);
-    let token = found.token;
-    let Token::Name = token else {
-        let w = sections::of_module(token);
-        return section(s, k, w, g, found);
-    };
-    declaration(s, k, g, found)
+    match found.token {
+        Token::Name => declaration(s, k, found),
+        _ => section(s, k, found),
+    }
 }
 
 // The end of the text.
-pub fn finish(s: &[u8], g: Got) -> ReadItem
-    ensures { result ≡ finish_at s.now g }
+pub fn finish(s: &[u8], at: usize) -> ReadItem
+    ensures { result ≡ finish_at s.now (from at) }
 {
-    let last = wants::next(s, g, Token::End);
-    close(Item::End, State::Finish, last)
+    close(
+        State::Finish,
+        sections::token(scan::token(s, at), Token::End, Item::End),
+    )
 }

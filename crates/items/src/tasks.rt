@@ -1,52 +1,43 @@
 // The body of a task.
 ghost use Rattle.std.specs.Prelude.{◌≡◌};
-ghost use Rattle.text.specs.Tokens.{token_at};
-ghost use Rattle.text.specs.Items.{task_port_at, portion_at, task_body_at};
+ghost use Rattle.text.specs.Expect.{from};
+ghost use Rattle.text.specs.Items.{task_body_at};
+ghost use Rattle.items.specs.Bodies.{task_port_of, task_section_of};
 
 use super::sections;
 use productions::{close, tasks};
-use text::{Got, Item, Lexed, ReadItem, State, Token};
+use text::{Lexed, ReadItem, State, Token};
 
-// A port in section k.
-fn port(s: &[u8], k: u8, g: Got, found: Lexed) -> ReadItem
-    requires { found ≡ token_at s.now g.end }
-    ensures { result ≡ task_port_at s.now k g }
+// A port in section k, by its first token, which is found.
+#[tactic(auto, unfolding(crate::specs::Bodies::task_port_of))]
+fn port(s: &[u8], k: u8, found: Lexed) -> ReadItem
+    ensures { result ≡ task_port_of s.now k found }
 {
-    let first = wants::given(g, found, Token::Name);
-    if k == 2 {
-        return tasks::input(s, first);
+    match k {
+        2 => close(State::Task(2), tasks::input(s, found)),
+        3 => close(State::Task(3), tasks::output(s, found)),
+        _ => sections::refused(found),
     }
-    if k == 3 {
-        return tasks::output(s, first);
-    }
-    sections::refused(found)
 }
 
-// Section w, in section k.
-fn section(s: &[u8], k: u8, w: u8, g: Got, found: Lexed) -> ReadItem
-    requires { found ≡ token_at s.now g.end }
-    ensures { result ≡ portion_at s.now k w g }
+// The section that the token found opens, in section k.
+#[tactic(auto, unfolding(crate::specs::Bodies::task_section_of))]
+fn section(s: &[u8], k: u8, found: Lexed) -> ReadItem
+    ensures { result ≡ task_section_of s.now k found }
 {
-    if w < k {
-        return sections::refused(found);
+    match sections::of_task(found.token) {
+        w if w < k => sections::refused(found),
+        4 => close(State::Module(5), tasks::end(s, found)),
+        w => close(State::Task(w), sections::begin(found)),
     }
-    if w == 4 {
-        let uses = wants::given(g, found, Token::KeyUses);
-        return tasks::end(s, uses);
-    }
-    let word = wants::given_any(g, found);
-    close(Item::Section, State::Task(w), word)
 }
 
-pub fn body(s: &[u8], k: u8, g: Got) -> ReadItem
-    ensures { result ≡ task_body_at s.now k g }
+pub fn body(s: &[u8], k: u8, at: usize) -> ReadItem
+    ensures { result ≡ task_body_at s.now k (from at) }
 {
-    let at = g.end;
     let found = scan::token(s, at);
-    let token = found.token;
-    let Token::Name = token else {
-        let w = sections::of_task(token);
-        return section(s, k, w, g, found);
-    };
-    port(s, k, g, found)
+    match found.token {
+        Token::Name => port(s, k, found),
+        _ => section(s, k, found),
+    }
 }

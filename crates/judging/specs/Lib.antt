@@ -1,2 +1,4 @@
 pub mod Rooms
 pub mod Parted
+pub mod Known
+pub mod Asking

@@ -27,6 +27,14 @@ use Rattle.kept.specs.Kept.{row_of, Right, Told, Kept, Lies, Laid, Stand, RowAt,
 abbrev pub lent_of : List ℕ → ℕ → List ℕ
 lent_of memo k = take (k * 16 + 16 + 16 - (k * 16 + 16)) (drop (k * 16 + 16) memo)
 
+-- row k, kept of this place, in the state of this number
+pub record At (memo : List ℕ) (k state at : ℕ) (row : List ℕ) : Type 0 where
+  pub below : k < get_or memo 0 0
+  pub size : length row ≡ 16
+  pub lent : row ≡ lent_of memo k
+  pub number : get_or row 1 0 ≡ state
+  pub place : get_or row 2 0 ≡ at
+
 -- ---- the last of each kind
 
 pub state-last : (n : ℕ) → 8 ≤ n % 16 → state_of n ≡ Q.Finish
@@ -216,6 +224,13 @@ looked {s} {memo} k {state} kept l q p =
     let z : k * 16 + 16 + 16 - (k * 16 + 16) ≡ 16 = omega arith in
     let told : Told s (lent_of memo k) = rw z (kept.seen k l) in
     told ∙ ap (λ (n : ℕ). seen_of (item_at s (state_of n) (get_or (lent_of memo k) 2 0))) q ∙ ap (λ (n : ℕ). seen_of (item_at s (state_of state) n)) p
+
+-- the same of a row that is known to be so
+pub at-read : {s memo row : List ℕ} {k state at : ℕ} → At memo k state at row → Kept s memo → read_of row ≡ item_at s (state_of state) at
+at-read {k = k} a kept = fetched k kept a.below (ap read_of a.lent) (ap (λ (r : List ℕ). state_of (get_or r 1 0)) (sym a.lent) ∙ ap state_of a.number) (ap (λ (r : List ℕ). get_or r 2 0) (sym a.lent) ∙ a.place)
+
+pub at-seen : {s memo row : List ℕ} {k state at : ℕ} → At memo k state at row → Kept s memo → seen_in row ≡ seen_of (item_at s (state_of state) at)
+at-seen {k = k} a kept = ap seen_in a.lent ∙ looked k kept a.below (ap (λ (r : List ℕ). get_or r 1 0) (sym a.lent) ∙ a.number) (ap (λ (r : List ℕ). get_or r 2 0) (sym a.lent) ∙ a.place)
 
 seen_by : {kind start end n : ℕ} (r : ReadItem) → kind ≡ kind_of r.item → name_of start end ≡ first_of r.item → n ≡ number_of r.state → ◌≡◌ {A = Seen} (record { kind = kind; start = start; end = end; behind = n; next = r.next }) (seen_of r)
 seen_by r k e b = rw (k, b) (ap (λ (m : Name). (record { kind = kind_of r.item; start = m.start; end = m.end; behind = number_of r.state; next = r.next })) e)

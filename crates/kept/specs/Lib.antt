@@ -1,4 +1,5 @@
 pub mod Rows
+pub mod Cells
 pub mod Seen
 pub mod Kept
 pub mod KeptLaws

@@ -1,5 +1,5 @@
 -- A pass over the items from a place on, one row for each, in as many turns as are allowed.
-use Rattle.std.specs.Prelude.{ℕ, suc, ◌+◌, ◌-◌, ◌*◌, ◌/◌, ◌≤◌, ◌<◌, min, ◌≡◌, Bool, true, List, ltb, take, drop}
+use Rattle.std.specs.Prelude.{Ok, ℕ, suc, ◌+◌, ◌-◌, ◌*◌, ◌/◌, ◌≤◌, ◌<◌, min, ◌≡◌, Bool, true, List, ltb, take, drop}
 use Rattle.std.proofs.Math.Path.{refl, sym, ap}
 use Rattle.std.proofs.Common.{subst, ◌∙◌, ltb-true, ltb-false}
 use Rattle.std.proofs.Math.Bool.{false}
@@ -10,14 +10,12 @@ use Rattle.text.specs.declared.State.{State}
 use Rattle.text.specs.declared.ReadItem.{ReadItem}
 use Rattle.text.specs.Items.{item_at, goes, items_from, refused_or, refused_in}
 use Rattle.text.proofs.ItemsLaws.{from_on, from-stop, turn_on, turn-ahead}
-use Rattle.items.specs.declared.pass.FirstPass.{FirstPass}
-use Rattle.items.specs.declared.pass.FirstPass.TheVariants.{Fine}
-use Rattle.items.specs.Answers.{answered}
+use Rattle.items.specs.Answers.{FirstPass, answered}
 use Rattle.kept.specs.declared.Seen.{Seen}
 use Rattle.kept.specs.Rows.{state_of, fields_in, item_of, read_of}
 use Rattle.kept.specs.Seen.{seen_of, seen_in}
 use Rattle.kept.specs.Kept.{Laid, Stand, RowAt, past, stand_from, Listed}
-use Rattle.kept.specs.KeptLaws.{lent, lent_length, lent-part, lent-here, lent-before, lent-read, lent_seen}
+use Rattle.kept.specs.KeptLaws.{lent, lent_length, lent-here, lent-before, lent-read, lent_seen}
 use Rattle.kept.specs.Kinds.{kind-goes, kind-stops}
 
 -- the answer of a row that ends a pass
@@ -81,7 +79,7 @@ module _ (s : List ℕ) (from place turns : ℕ) where
         single = λ l e. absurd (omega (arith, l));
       }
 
-  pub walk_ends : {rows : List ℕ} {many state at left : ℕ} → Walking rows many state at left → left ≡ 0 → Walked s from place turns rows Fine many
+  pub walk_ends : {rows : List ℕ} {many state at left : ℕ} → Walking rows many state at left → left ≡ 0 → Walked s from place turns rows (Ok tt) many
   walk_ends w z =
       record {
         told = λ p q. let o = w.on p q in absurd (omega (arith, o.within, o.enough, z));
@@ -109,14 +107,10 @@ module _ (s : List ℕ) (from place turns : ℕ) where
     now-before : (k : ℕ) → k < many → RowAt s (stand_from s begin k) (take 16 (drop (k * 16) now))
     now-before k h = rw (lent-before rows row many long w.room k h) (w.row k h)
 
-    -- the part that was lent for the row
-    abbrev part : List ℕ
-    part = take (many * 16 + 16 - many * 16) (drop (many * 16) now)
-
-    pub walk-stops : {answer : FirstPass} → 18 < sort → (18 < get_or part 0 0 → answer ≡ end_of part) → Walked s from place turns now answer (many + 1)
+    pub walk-stops : {answer : FirstPass} → 18 < sort → (18 < get_or row 0 0 → answer ≡ end_of row) → Walked s from place turns now answer (many + 1)
     unfolding refused_in
     walk-stops {answer} h e =
-        let said : answer ≡ end_of row = (rw (lent-part rows row many long w.room) at e) (omega (arith, l.kind, h)) in
+        let said : answer ≡ end_of row = e (omega (arith, l.kind, h)) in
         let stops : goes (item_at s (state_of state) at).item ≡ false = rw (← l.told) (kind-stops row (omega (arith, l.kind, h))) in
         let size = lent_length rows row many long w.room in
         record {

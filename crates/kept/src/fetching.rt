@@ -18,11 +18,9 @@ pub(crate) fn port(row: &[usize], at: usize) -> Port
     requires { at + 5 ≤ length row.now }
     ensures { result ≡ port_at row.now at }
 {
-    let first = name(row, at);
-    let second = name(row, at + 2);
     Port {
-        first: first,
-        second: second,
+        first: name(row, at),
+        second: name(row, at + 2),
         dotted: row[at + 4] == 1,
     }
 }
@@ -31,18 +29,17 @@ pub(crate) fn literal(row: &[usize], at: usize) -> Literal
     requires { at + 5 ≤ length row.now }
     ensures { result ≡ literal_at row.now at }
 {
-    let digits = name(row, at + 3);
-    let kind = row[at];
     let place = row[at + 1];
     let flag = row[at + 2] == 1;
-    match kind {
+    let digits = name(row, at + 3);
+    match row[at] {
         0 => Literal::Truth {
             at: place,
             yes: flag,
         },
         1 => Literal::Number {
             at: place,
-            digits: digits,
+            digits,
             minus: flag,
         },
         _ => Literal::Named(digits),

@@ -3,11 +3,12 @@
 // Builds on the items of a text.
 #![tactic(auto)]
 
-ghost use Rattle.std.specs.Prelude.{◌-◌, ◌/◌, min, length, get_or, ◌≡◌};
+ghost use Rattle.std.specs.Prelude.{◌-◌, ◌/◌, min, length, get_or, ◌≡◌, IfSome};
 ghost use Rattle.text.specs.Items.{item_at};
 ghost use Rattle.kept.specs.Rows.{state_of, read_of};
 ghost use Rattle.kept.specs.Seen.{seen_of, seen_in};
 ghost use Rattle.kept.specs.Kept.{Kept, Looked};
+ghost use Rattle.kept.specs.KeptLaws.{At};
 
 // What a search for a name looks at in a row: its kind, where its first name starts and ends, and the state and the place behind it.
 #[derive(Clone, Copy)]
@@ -41,76 +42,67 @@ fn held(memo: &[usize]) -> usize
     if memo.len() < 16 {
         return 0;
     }
-    let room = (memo.len() - 16) / 16;
-    let many = memo[0];
-    if many < room {
-        return many;
+    memo[0].min((memo.len() - 16) / 16)
+}
+
+// Row k, where it is of this place and state.
+fn row_at(memo: &[usize], k: usize, state: usize, at: usize) -> Option<&[usize]>
+    ensures { IfSome result (λ row. At memo.now k state at row.now) }
+{
+    if k >= held(memo) {
+        return None;
     }
-    room
+    let first = k * 16 + 16;
+    let row = &memo[first..first + 16];
+    if row[1] == state && row[2] == at {
+        Some(row)
+    } else {
+        None
+    }
 }
 
 // The row of the item that is read at a place, in a state by its number.
 fn anew(s: &[u8], number: usize, at: usize, row: &mut [usize; 16])
     ensures { (read_of row.new ≡ item_at s.now (state_of number) at) × (seen_in row.new ≡ seen_of (item_at s.now (state_of number) at)) }
 {
-    let _passed = pass::walk(s, row, number, at, 1);
+    pass::walk(s, row, number, at, 1);
 }
 
 // The row of the item at a place, in a state by its number: row k where it is of this place and state, or else read anew.
-pub fn fetch<'a>(
-    s: &'a [u8],
-    memo: &'a [usize],
-    k: usize,
-    state: usize,
-    at: usize,
-    row: &mut [usize; 16],
-)
+pub fn fetch(s: &[u8], memo: &[usize], k: usize, state: usize, at: usize, row: &mut [usize; 16])
     ensures { Kept s.now memo.now → read_of row.new ≡ item_at s.now (state_of state) at }
 {
-    let rows = held(memo);
-    if k < rows {
-        let first = k * 16 + 16;
-        let end = first + 16;
-        let from = &memo[first..end];
-        if from[2] == at {
-            if from[1] == state {
-                rows::copied(from, row);
-                return;
-            }
-        }
+    match row_at(memo, k, state, at) {
+        Some(kept) => row.copy_from_slice(kept),
+        None => anew(s, state, at, row),
     }
-    anew(s, state, at, row);
 }
 
-// What a search looks at in the item at a place, in a state by its number: as it stands in row k where that is of this place and state.
-pub fn look<'a>(s: &'a [u8], memo: &'a [usize], k: usize, state: usize, at: usize) -> Seen
-    ensures seen { Kept s.now memo.now → result ≡ seen_of (item_at s.now (state_of state) at) }
-    ensures row { Kept s.now memo.now → Looked s.now state at result.kind result.start result.end result.behind result.next }
+// What a search looks at in a row.
+fn seen_in(row: &[usize]) -> Seen
+    requires { length row.now ≡ 16 }
+    ensures { result ≡ seen_in row.now }
 {
-    let rows = held(memo);
-    if k < rows {
-        let first = k * 16 + 16;
-        let end = first + 16;
-        let from = &memo[first..end];
-        if from[2] == at {
-            if from[1] == state {
-                return Seen {
-                    kind: from[0],
-                    start: from[5],
-                    end: from[6],
-                    behind: from[3],
-                    next: from[4],
-                };
-            }
-        }
-    }
-    let mut row = [0usize; 16];
-    anew(s, state, at, &mut row);
     Seen {
         kind: row[0],
         start: row[5],
         end: row[6],
         behind: row[3],
         next: row[4],
+    }
+}
+
+// What a search looks at in the item at a place, in a state by its number: as it stands in row k where that is of this place and state.
+pub fn look(s: &[u8], memo: &[usize], k: usize, state: usize, at: usize) -> Seen
+    ensures seen { Kept s.now memo.now → result ≡ seen_of (item_at s.now (state_of state) at) }
+    ensures row { Kept s.now memo.now → Looked s.now state at result.kind result.start result.end result.behind result.next }
+{
+    match row_at(memo, k, state, at) {
+        Some(kept) => seen_in(kept),
+        None => {
+            let mut row = [0usize; 16];
+            anew(s, state, at, &mut row);
+            seen_in(&row)
+        }
     }
 }

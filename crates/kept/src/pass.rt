@@ -5,13 +5,13 @@ ghost use Rattle.items.specs.Answers.{answered};
 ghost use Rattle.kept.specs.Kept.{Kept, Keeps};
 ghost use Rattle.kept.specs.Passes.{Walked, end_of};
 
-use super::{states, storing};
-use items::FirstPass;
+use super::storing;
+use text::Refusal;
 
 // What a pass says: its answer, and how many rows it has laid.
 #[derive(Clone, Copy)]
 pub(crate) struct Passed {
-    pub(crate) answer: FirstPass,
+    pub(crate) answer: Result<(), Refusal>,
     pub(crate) rows: usize,
 }
 
@@ -19,36 +19,23 @@ pub(crate) struct Passed {
 fn clear(memo: &mut [usize])
     ensures { get_or memo.new 0 0 ≡ 0 }
 {
-    if 0 < memo.len() {
+    if !memo.is_empty() {
         memo[0] = 0;
     }
 }
 
-// The row behind a row, or the last one that there is room for.
-fn following(many: usize, length: usize) -> usize
-    requires { 16 ≤ length }
-    ensures { result ≡ min (many + 1) ((length - 16) / 16) }
-{
-    let last = (length - 16) / 16;
-    if last <= many {
-        return last;
-    }
-    many + 1
-}
-
 // The answer of a pass that a row ends.
-fn ending(row: &[usize]) -> FirstPass
+fn ending(row: &[usize]) -> Result<(), Refusal>
     requires { length row.now ≡ 16 }
     ensures { 18 < get_or row.now 0 0 → result ≡ end_of row.now }
 {
     if 19 < row[0] {
-        let number = states::narrow(row[7]);
-        return FirstPass::Refused {
-            number: number,
+        return Err(Refusal {
+            number: (row[7] % 256) as u8,
             at: row[8],
-        };
+        });
     }
-    FirstPass::Fine
+    Ok(())
 }
 
 // The items from a place on, in a state by its number, at most as many as there are turns: each kept in a row of its own, and those beyond the room in the last row.
@@ -59,46 +46,38 @@ pub(crate) fn walk(s: &[u8], rows: &mut [usize], state: usize, place: usize, tur
     let mut many = 0;
     let mut number = state;
     let mut at = place;
-    let mut left = turns;
-    while 0 < left {
+    for _ in 0..turns {
         let first = many * 16;
-        let end = first + 16;
-        let turn = storing::read(s, number, at, &mut rows[first..end]);
+        let row = &mut rows[first..first + 16];
+        let turn = storing::read(s, number, at, row);
         if 18 < turn.kind {
-            let answer = ending(&rows[first..end]);
             return Passed {
-                answer: answer,
+                answer: ending(row),
                 rows: many + 1,
             };
         }
         number = turn.number;
         at = turn.next;
-        many = following(many, rows.len());
-        left = left - 1;
+        many = (many + 1).min((rows.len() - 16) / 16);
     }
     Passed {
-        answer: FirstPass::Fine,
+        answer: Ok(()),
         rows: many,
     }
 }
 
 // The leftmost 2 or 3 of a text; the array keeps its items in order, as many as it has room for, and in the last row the last item.
-pub fn syntax(s: &[u8], memo: &mut [usize]) -> FirstPass
+pub fn syntax(s: &[u8], memo: &mut [usize]) -> Result<(), Refusal>
     ensures answer { result ≡ answered (syntax_of s.now) }
     ensures kept { Kept s.now memo.new }
     ensures items { Keeps s.now memo.new }
 {
-    let room = memo.len();
     let turns = s.len() + 1;
-    if room < 32 {
+    if memo.len() < 32 {
         clear(memo);
-        let mut own = [0usize; 16];
-        let passed = walk(s, &mut own, 0, 0, turns);
-        let answer = passed.answer;
-        return answer;
+        return walk(s, &mut [0usize; 16], 0, 0, turns).answer;
     }
-    let passed = walk(s, &mut memo[16..room], 0, 0, turns);
+    let passed = walk(s, &mut memo[16..], 0, 0, turns);
     memo[0] = passed.rows;
-    let answer = passed.answer;
-    answer
+    passed.answer
 }

@@ -18,41 +18,25 @@ fn is_quiet(row: &[usize], state: usize, at: usize) -> bool
     requires { length row.now ≡ 16 }
     ensures { result ≡ true → (get_or row.now 0 0 ≡ 9 → ⊥) × (get_or row.now 0 0 ≤ 18) × (get_or row.now 1 0 ≡ state) × (get_or row.now 2 0 ≡ at) }
 {
-    if row[0] == 9 {
-        return false;
-    }
-    if 18 < row[0] {
-        return false;
-    }
-    if row[1] == state {
-        return row[2] == at;
-    }
-    false
+    row[0] != 9 && row[0] <= 18 && row[1] == state && row[2] == at
 }
 
 // From item k on, at a place and in a state by its number, over the rows that are kept, as long as they begin no mode and items follow them.
 pub fn to_mode(memo: &[usize], k: usize, state: usize, at: usize) -> Stop
     ensures { (s : List ℕ) → Kept s memo.now → Skipped s state at result.state result.at }
 {
-    let rows = held(memo);
-    let mut item = k;
-    let mut behind = state;
-    let mut place = at;
-    while item < rows {
+    let mut stop = Stop { item: k, state, at };
+    for item in k..held(memo) {
         let first = item * 16 + 16;
-        let end = first + 16;
-        let row = &memo[first..end];
-        if is_quiet(row, behind, place) {
-            behind = row[3];
-            place = row[4];
-            item = item + 1;
-        } else {
+        let row = &memo[first..first + 16];
+        if !is_quiet(row, stop.state, stop.at) {
             break;
         }
+        stop = Stop {
+            item: item + 1,
+            state: row[3],
+            at: row[4],
+        };
     }
-    Stop {
-        item: item,
-        state: behind,
-        at: place,
-    }
+    stop
 }

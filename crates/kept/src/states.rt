@@ -1,82 +1,35 @@
 // A state as one number: which it is, and behind that the number of its section.
-ghost use Rattle.std.specs.Prelude.{◌+◌, ◌*◌, ◌%◌, ◌<◌, ◌≡◌};
+ghost use Rattle.std.specs.Prelude.{◌≡◌};
 ghost use Rattle.kept.specs.Rows.{state_of};
-ghost use Rattle.kept.specs.States.{which_of, section_of, number_of};
+ghost use Rattle.kept.specs.States.{number_of};
 
 use text::State;
-
-pub fn wide(number: u8) -> usize
-    ensures { (result ≡ number) × (result < 256) }
-{
-    number as usize
-}
-
-pub fn narrow(number: usize) -> u8
-    ensures { result ≡ number % 256 }
-{
-    (number % 256) as u8
-}
-
-// A state's own number beside that of a section.
-fn beside(which: usize, section: u8) -> usize
-    requires { which < 16 }
-    ensures { (result ≡ section * 16 + which) × (section < 256) }
-{
-    let behind = wide(section);
-    behind * 16 + which
-}
-
-// Which state it is, its section aside.
-fn which(state: State) -> usize
-    ensures { result ≡ which_of state }
-{
-    match state {
-        State::Begin => 0,
-        State::Module(_) => 1,
-        State::Task(_) => 2,
-        State::Mode(_) => 3,
-        State::Act(_) => 4,
-        State::Guarded(_) => 5,
-        State::GuardArgs(_) => 6,
-        State::Args => 7,
-        State::Finish => 8,
-    }
-}
-
-// The section of a state, or 0.
-fn section(state: State) -> u8
-    ensures { result ≡ section_of state }
-{
-    match state {
-        State::Begin => 0,
-        State::Module(section) => section,
-        State::Task(section) => section,
-        State::Mode(section) => section,
-        State::Act(section) => section,
-        State::Guarded(section) => section,
-        State::GuardArgs(section) => section,
-        State::Args => 0,
-        State::Finish => 0,
-    }
-}
 
 // The number of a state.
 pub fn number_of(state: State) -> usize
     ensures number { result ≡ number_of state }
     ensures state { state_of result ≡ state }
 {
-    let own = which(state);
-    let behind = section(state);
-    beside(own, behind)
+    let (which, section) = match state {
+        State::Begin => (0, 0),
+        State::Module(k) => (1, k),
+        State::Task(k) => (2, k),
+        State::Mode(k) => (3, k),
+        State::Act(k) => (4, k),
+        State::Guarded(k) => (5, k),
+        State::GuardArgs(k) => (6, k),
+        State::Args => (7, 0),
+        State::Finish => (8, 0),
+    };
+    section as usize * 16 + which
 }
 
 // The state of a number.
 pub fn state_of(number: usize) -> State
     ensures { result ≡ state_of number }
 {
-    let section = narrow(number / 16);
-    let which = number % 16;
-    match which {
+    let section = (number / 16 % 256) as u8;
+    match number % 16 {
         0 => State::Begin,
         1 => State::Module(section),
         2 => State::Task(section),

@@ -1,20 +1,12 @@
 // A row of sixteen numbers from an item.
-ghost use Rattle.std.specs.Prelude.{◌%◌, eqb, length, get_or, ◌≡◌};
-ghost use Rattle.kept.specs.Rows.{name_of, name_at, literal_at, port_at, literal_of};
+ghost use Rattle.std.specs.Prelude.{◌+◌, ◌%◌, ◌≤◌, eqb, length, get_or, ◌≡◌};
+ghost use Rattle.std.proofs.lemmas.List.Edits.{sets};
+ghost use Rattle.kept.specs.Rows.{name_of, name_at, literal_at, port_at};
+ghost use Rattle.kept.specs.Cells.{name_cells, port_cells, value_cells};
 ghost use Rattle.kept.specs.Kept.{Lies, Laid};
 
 use super::states;
 use text::{Item, Literal, Name, Port};
-
-// A value in five numbers: which kind, its place, its flag, and where its name or its digits start and end.
-#[derive(Clone, Copy)]
-pub(crate) struct Value {
-    pub(crate) kind: usize,
-    pub(crate) at: usize,
-    pub(crate) flag: usize,
-    pub(crate) start: usize,
-    pub(crate) end: usize,
-}
 
 // What a pass goes on by: the kind of an item, the number of the state behind it, and the next place.
 #[derive(Clone, Copy)]
@@ -24,58 +16,42 @@ pub(crate) struct Turn {
     pub(crate) next: usize,
 }
 
-fn bit(yes: bool) -> usize
-    ensures { eqb result 1 ≡ yes }
+// The name of an item that has none.
+const NAMELESS: Name = Name { start: 0, end: 0 };
+
+// A name lies in two numbers: its start and its end.
+fn put_name(row: &mut [usize], at: usize, name: Name)
+    requires { at + 2 ≤ length row.old }
+    ensures { row.new ≡ sets row.old at (name_cells name) }
 {
-    if yes {
-        return 1;
-    }
-    0
+    row[at] = name.start;
+    row[at + 1] = name.end;
 }
 
-// The five numbers of a value.
-fn value_of(literal: Literal) -> Value
-    ensures { literal_of result.kind result.at result.flag result.start result.end ≡ literal }
+// A port lies in five numbers: both names, and whether it has a dot.
+fn put_port(row: &mut [usize], at: usize, port: Port)
+    requires { at + 5 ≤ length row.old }
+    ensures { row.new ≡ sets row.old at (port_cells port) }
 {
-    match literal {
-        Literal::Truth { at, yes } => {
-            let flag = bit(yes);
-            Value {
-                kind: 0,
-                at: at,
-                flag: flag,
-                start: 0,
-                end: 0,
-            }
-        }
-        Literal::Number { at, digits, minus } => {
-            let flag = bit(minus);
-            Value {
-                kind: 1,
-                at: at,
-                flag: flag,
-                start: digits.start,
-                end: digits.end,
-            }
-        }
-        Literal::Named(name) => Value {
-            kind: 2,
-            at: 0,
-            flag: 0,
-            start: name.start,
-            end: name.end,
-        },
-    }
+    put_name(row, at, port.first);
+    put_name(row, at + 2, port.second);
+    row[at + 4] = port.dotted as usize;
 }
 
-// A kind, and no name.
-fn plain(row: &mut [usize], kind: usize)
-    requires { length row.old ≡ 16 }
-    ensures { (get_or row.new 0 0 ≡ kind) × (name_at row.new 5 ≡ name_of 0 0) }
+// A value lies in five numbers: which kind, its place, its flag, and its name or its digits.
+fn put_value(row: &mut [usize], at: usize, value: Literal)
+    requires { at + 5 ≤ length row.old }
+    ensures { row.new ≡ sets row.old at (value_cells value) }
 {
-    row[0] = kind;
-    row[5] = 0;
-    row[6] = 0;
+    let (kind, place, flag, name) = match value {
+        Literal::Truth { at, yes } => (0, at, yes, NAMELESS),
+        Literal::Number { at, digits, minus } => (1, at, minus, digits),
+        Literal::Named(name) => (2, 0, false, name),
+    };
+    row[at] = kind;
+    row[at + 1] = place;
+    row[at + 2] = flag as usize;
+    put_name(row, at + 3, name);
 }
 
 // A kind and a name.
@@ -84,8 +60,15 @@ fn named(row: &mut [usize], kind: usize, name: Name)
     ensures { (get_or row.new 0 0 ≡ kind) × (name_at row.new 5 ≡ name) }
 {
     row[0] = kind;
-    row[5] = name.start;
-    row[6] = name.end;
+    put_name(row, 5, name);
+}
+
+// A kind, and no name.
+fn plain(row: &mut [usize], kind: usize)
+    requires { length row.old ≡ 16 }
+    ensures { (get_or row.new 0 0 ≡ kind) × (name_at row.new 5 ≡ name_of 0 0) }
+{
+    named(row, kind, NAMELESS);
 }
 
 // A kind, a name, and a number.
@@ -94,8 +77,7 @@ fn counted(row: &mut [usize], kind: usize, name: Name, count: usize)
     ensures { (get_or row.new 0 0 ≡ kind) × (name_at row.new 5 ≡ name) × (get_or row.new 7 0 ≡ count) }
 {
     row[0] = kind;
-    row[5] = name.start;
-    row[6] = name.end;
+    put_name(row, 5, name);
     row[7] = count;
 }
 
@@ -105,75 +87,50 @@ fn typed(row: &mut [usize], kind: usize, typ: Name, name: Name, last: Name)
     ensures { (get_or row.new 0 0 ≡ kind) × (name_at row.new 5 ≡ typ) × (name_at row.new 7 ≡ name) × (name_at row.new 9 ≡ last) }
 {
     row[0] = kind;
-    row[5] = typ.start;
-    row[6] = typ.end;
-    row[7] = name.start;
-    row[8] = name.end;
-    row[9] = last.start;
-    row[10] = last.end;
+    put_name(row, 5, typ);
+    put_name(row, 7, name);
+    put_name(row, 9, last);
 }
 
 // A kind, two names, a value, and one name more.
-fn long(row: &mut [usize], kind: usize, typ: Name, name: Name, literal: Literal, last: Name)
+fn long(row: &mut [usize], kind: usize, typ: Name, name: Name, value: Literal, last: Name)
     requires { length row.old ≡ 16 }
-    ensures { (get_or row.new 0 0 ≡ kind) × (name_at row.new 5 ≡ typ) × (name_at row.new 7 ≡ name) × (literal_at row.new 9 ≡ literal) × (name_at row.new 14 ≡ last) }
+    ensures { (get_or row.new 0 0 ≡ kind) × (name_at row.new 5 ≡ typ) × (name_at row.new 7 ≡ name) × (literal_at row.new 9 ≡ value) × (name_at row.new 14 ≡ last) }
 {
-    let value = value_of(literal);
     row[0] = kind;
-    row[5] = typ.start;
-    row[6] = typ.end;
-    row[7] = name.start;
-    row[8] = name.end;
-    row[9] = value.kind;
-    row[10] = value.at;
-    row[11] = value.flag;
-    row[12] = value.start;
-    row[13] = value.end;
-    row[14] = last.start;
-    row[15] = last.end;
+    put_name(row, 5, typ);
+    put_name(row, 7, name);
+    put_value(row, 9, value);
+    put_name(row, 14, last);
 }
 
-fn constant(row: &mut [usize], name: Name, literal: Literal)
+fn constant(row: &mut [usize], name: Name, value: Literal)
     requires { length row.old ≡ 16 }
-    ensures { (get_or row.new 0 0 ≡ 2) × (name_at row.new 5 ≡ name) × (literal_at row.new 7 ≡ literal) }
+    ensures { (get_or row.new 0 0 ≡ 2) × (name_at row.new 5 ≡ name) × (literal_at row.new 7 ≡ value) }
 {
-    let value = value_of(literal);
     row[0] = 2;
-    row[5] = name.start;
-    row[6] = name.end;
-    row[7] = value.kind;
-    row[8] = value.at;
-    row[9] = value.flag;
-    row[10] = value.start;
-    row[11] = value.end;
+    put_name(row, 5, name);
+    put_value(row, 7, value);
 }
 
 fn mode(row: &mut [usize], start: bool, at: usize, name: Name, digits: Name, milli: bool)
     requires { length row.old ≡ 16 }
     ensures { (get_or row.new 0 0 ≡ 9) × (eqb (get_or row.new 7 0) 1 ≡ start) × (get_or row.new 8 0 ≡ at) × (name_at row.new 5 ≡ name) × (name_at row.new 9 ≡ digits) × (eqb (get_or row.new 11 0) 1 ≡ milli) }
 {
-    let first = bit(start);
-    let unit = bit(milli);
     row[0] = 9;
-    row[5] = name.start;
-    row[6] = name.end;
-    row[7] = first;
+    put_name(row, 5, name);
+    row[7] = start as usize;
     row[8] = at;
-    row[9] = digits.start;
-    row[10] = digits.end;
-    row[11] = unit;
+    put_name(row, 9, digits);
+    row[11] = milli as usize;
 }
 
-// The section and the place of an activity, and its digits.
-fn activity(row: &mut [usize], section: u8, at: usize, digits: Name)
+// A kind, a name, a byte and a place: an activity's digits and section, or a refusal's number and no name.
+fn placed(row: &mut [usize], kind: usize, name: Name, byte: u8, at: usize)
     requires { length row.old ≡ 16 }
-    ensures { (get_or row.new 0 0 ≡ 10) × (get_or row.new 7 0 % 256 ≡ section) × (get_or row.new 8 0 ≡ at) × (name_at row.new 5 ≡ digits) }
+    ensures { (get_or row.new 0 0 ≡ kind) × (get_or row.new 7 0 % 256 ≡ byte) × (get_or row.new 8 0 ≡ at) × (name_at row.new 5 ≡ name) }
 {
-    let number = states::wide(section);
-    row[0] = 10;
-    row[5] = digits.start;
-    row[6] = digits.end;
-    row[7] = number;
+    counted(row, kind, name, byte as usize);
     row[8] = at;
 }
 
@@ -182,45 +139,17 @@ fn argument(row: &mut [usize], kind: usize, port: Port)
     requires { length row.old ≡ 16 }
     ensures { (get_or row.new 0 0 ≡ kind) × (port_at row.new 5 ≡ port) }
 {
-    let dotted = bit(port.dotted);
-    let first = port.first;
-    let second = port.second;
     row[0] = kind;
-    row[5] = first.start;
-    row[6] = first.end;
-    row[7] = second.start;
-    row[8] = second.end;
-    row[9] = dotted;
+    put_port(row, 5, port);
 }
 
 fn update(row: &mut [usize], actuator: Name, source: Port)
     requires { length row.old ≡ 16 }
     ensures { (get_or row.new 0 0 ≡ 15) × (name_at row.new 5 ≡ actuator) × (port_at row.new 7 ≡ source) }
 {
-    let dotted = bit(source.dotted);
-    let first = source.first;
-    let second = source.second;
     row[0] = 15;
-    row[5] = actuator.start;
-    row[6] = actuator.end;
-    row[7] = first.start;
-    row[8] = first.end;
-    row[9] = second.start;
-    row[10] = second.end;
-    row[11] = dotted;
-}
-
-// The number and the place of a refusal.
-fn refused(row: &mut [usize], number: u8, at: usize)
-    requires { length row.old ≡ 16 }
-    ensures { (get_or row.new 0 0 ≡ 20) × (name_at row.new 5 ≡ name_of 0 0) × (get_or row.new 7 0 % 256 ≡ number) × (get_or row.new 8 0 ≡ at) }
-{
-    let refusal = states::wide(number);
-    row[0] = 20;
-    row[5] = 0;
-    row[6] = 0;
-    row[7] = refusal;
-    row[8] = at;
+    put_name(row, 5, actuator);
+    put_port(row, 7, source);
 }
 
 // The kind and the numbers of an item.
@@ -250,7 +179,7 @@ fn lay(row: &mut [usize], item: Item)
             digits,
             milli,
         } => mode(row, start, at, name, digits, milli),
-        Item::Activity { kind, at, digits } => activity(row, kind, at, digits),
+        Item::Activity { kind, at, digits } => placed(row, 10, digits, kind, at),
         Item::Guard { name, count } => counted(row, 11, name, count),
         Item::GuardArg(port) => argument(row, 12, port),
         Item::Invoke { task, count } => counted(row, 13, task, count),
@@ -260,7 +189,7 @@ fn lay(row: &mut [usize], item: Item)
         Item::ModeEnd => plain(row, 17),
         Item::ModuleEnd => plain(row, 18),
         Item::End => plain(row, 19),
-        Item::No { number, at } => refused(row, number, at),
+        Item::No { number, at } => placed(row, 20, NAMELESS, number, at),
     }
 }
 
@@ -269,20 +198,16 @@ pub(crate) fn read(s: &[u8], before: usize, at: usize, row: &mut [usize]) -> Tur
     requires { length row.old ≡ 16 }
     ensures { Laid s.now before at row.new result.kind result.number result.next }
 {
-    let state = states::state_of(before);
-    let read = items::item(s, state, at);
-    let found = read.item;
-    lay(row, found);
-    let ahead = read.state;
-    let behind = states::number_of(ahead);
-    let next = read.next;
+    let read = items::item(s, states::state_of(before), at);
+    lay(row, read.item);
+    let number = states::number_of(read.state);
     row[1] = before;
     row[2] = at;
-    row[3] = behind;
-    row[4] = next;
+    row[3] = number;
+    row[4] = read.next;
     Turn {
         kind: row[0],
-        number: behind,
-        next: next,
+        number,
+        next: read.next,
     }
 }

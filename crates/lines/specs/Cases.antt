@@ -1,5 +1,5 @@
 -- The definitions by cases (docs/CONSOLE.md).
-use Rattle.std.specs.Prelude.{ℕ, ◌≡◌, refl, List, [], ◌∷◌, Bool, true, false, ◌&&◌, not, T}
+use Rattle.std.specs.Prelude.{ℕ, ◌≡◌, refl, List, [], ◌∷◌, Bool, Some, None, ◌&&◌, not, T}
 use Prim.Native.String.{String}
 use Rattle.model.specs.Bytes.{bytes, same}
 use Rattle.text.specs.Words.{munch, value_from}
@@ -36,11 +36,11 @@ words : (word_at (bytes "tick 7 -") 0 ≡ record { from = 0; to = 4; next = 5 })
 unfolding munch
 words = (refl, refl, refl)
 
-small : (small_of (bytes "007") ≡ record { good = true; value = 7 }) × (small_of (bytes "4294967295") ≡ record { good = true; value = 4294967295 }) × (small_of (bytes "4294967296") ≡ record { good = false; value = 0 }) × (small_of (bytes "7a") ≡ record { good = false; value = 0 }) × (small_of [] ≡ record { good = false; value = 0 })
+small : (small_of (bytes "007") ≡ Some 7) × (small_of (bytes "4294967295") ≡ Some 4294967295) × (small_of (bytes "4294967296") ≡ None) × (small_of (bytes "7a") ≡ None) × (small_of [] ≡ None)
 unfolding small_of digits all digit_in value_from
 small = (refl, refl, refl, refl, refl)
 
-unspelled : (unspelled_of (bytes "00ff") 2 ≡ record { good = true; size = 2 }) × (unspelled_of (bytes "00ff") 1 ≡ record { good = false; size = 0 }) × (unspelled_of (bytes "0ff") 9 ≡ record { good = false; size = 0 }) × (unspelled_of (bytes "0F") 9 ≡ record { good = false; size = 0 }) × (unspelled_of (bytes "-") 0 ≡ record { good = true; size = 0 }) × (unspelled_of [] 9 ≡ record { good = false; size = 0 }) × (bytes_of (bytes "0aff") ≡ 10 ∷ 255 ∷ [])
+unspelled : (unspelled_of (bytes "00ff") 2 ≡ Some 2) × (unspelled_of (bytes "00ff") 1 ≡ None) × (unspelled_of (bytes "0ff") 9 ≡ None) × (unspelled_of (bytes "0F") 9 ≡ None) × (unspelled_of (bytes "-") 0 ≡ Some 0) × (unspelled_of [] 9 ≡ None) × (bytes_of (bytes "0aff") ≡ 10 ∷ 255 ∷ [])
 unfolding unspelled_of digits all digit_in same bytes_of hex_worth
 unspelled = (refl, refl, refl, refl, refl, refl, refl)
 

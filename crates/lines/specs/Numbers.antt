@@ -1,11 +1,9 @@
 -- Numbers and byte strings in a line (docs/CONSOLE.md).
-use Rattle.std.specs.Prelude.{ℕ, ◌+◌, ◌-◌, ◌*◌, ◌/◌, ◌%◌, ◌≤◌, ◌<◌, min, ◌≡◌, List, [], ◌∷◌, Bool, true, false, cond, length, eqb, leb, ltb}
+use Rattle.std.specs.Prelude.{ℕ, ◌+◌, ◌-◌, ◌*◌, ◌/◌, ◌%◌, ◌≤◌, min, ◌≡◌, List, [], ◌∷◌, Bool, true, false, cond, Option, Some, None, is_some, unwrap_or, length, eqb, leb, ltb}
 use Prim.Native.Char.{code}
 use Rattle.model.specs.Bytes.{bytes, same}
 use Rattle.text.specs.Words.{within, digit, value}
 use Rattle.lines.specs.Buffers.{written}
-use Rattle.lines.specs.declared.numbers.Number.{Number}
-use Rattle.lines.specs.declared.numbers.Unspelled.{Unspelled}
 
 -- the digits 0 to 9, and where they are hexadecimal a to f
 unfoldable pub digit_in : Bool → ℕ → Bool
@@ -23,17 +21,12 @@ unfoldable pub digits : Bool → List ℕ → Bool
 digits hex w = cond (eqb (length w) 0) false (all (digit_in hex) w)
 
 -- Numbers: one or more decimal digits, leading zeros as many as one likes; a value beyond 32 bits counts as 4,294,967,296.
-unfoldable pub number_of : List ℕ → Number
-number_of w = cond (digits false w) (record { good = true; value = min (value w) 4294967296 }) (record { good = false; value = 0 })
+unfoldable pub number_of : List ℕ → Option ℕ
+number_of w = cond (digits false w) (Some (min (value w) 4294967296)) None
 
 -- Numbers of a request: of a value up to 4,294,967,295
-unfoldable pub small_of : List ℕ → Number
-small_of w = cond (digits false w) (cond (ltb (value w) 4294967296) (record { good = true; value = value w }) (record { good = false; value = 0 })) (record { good = false; value = 0 })
-
--- that number, and that it fits 32 bits
-pub record Small (w : List ℕ) (r : Number) : Type 0 where
-  pub answer : r ≡ small_of w
-  pub small : r.value < 4294967296
+unfoldable pub small_of : List ℕ → Option ℕ
+small_of w = cond (digits false w) (cond (ltb (value w) 4294967296) (Some (value w)) None) None
 
 -- the value of a hexadecimal digit
 unfoldable pub hex_worth : ℕ → ℕ
@@ -45,20 +38,16 @@ bytes_of [] = []
 bytes_of (high ∷ []) = []
 bytes_of (high ∷ low ∷ rest) = (hex_worth high * 16 + hex_worth low) ∷ bytes_of rest
 
--- the answer where there are none
-abbrev pub unread : Unspelled
-unread = record { good = false; size = 0 }
-
 -- Byte strings: `-` is the empty one; else an even number of hexadecimal digits, no more than there is room for.
-unfoldable pub unspelled_of : List ℕ → ℕ → Unspelled
+unfoldable pub unspelled_of : List ℕ → ℕ → Option ℕ
 unspelled_of w room =
-    cond (same w (bytes "-")) (record { good = true; size = 0 })
+    cond (same w (bytes "-")) (Some 0)
     (cond (digits true w)
-    (cond (eqb (length w % 2) 0) (cond (leb (length w / 2) room) (record { good = true; size = length w / 2 }) unread) unread)
-    unread)
+    (cond (eqb (length w % 2) 0) (cond (leb (length w / 2) room) (Some (length w / 2)) None) None)
+    None)
 
 -- the bytes stand at the room's begin where they are good, and else the room is as before
-pub record Unspells (w room then : List ℕ) (r : Unspelled) : Type 0 where
+pub record Unspells (w room then : List ℕ) (r : Option ℕ) : Type 0 where
   pub answer : r ≡ unspelled_of w (length room)
-  pub held : then ≡ cond r.good (written room 0 (bytes_of w)) room
-  pub fits : r.size ≤ length then
+  pub held : then ≡ cond (is_some r) (written room 0 (bytes_of w)) room
+  pub fits : unwrap_or r 0 ≤ length then

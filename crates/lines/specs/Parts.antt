@@ -1,9 +1,12 @@
 -- Words of a line, with one blank between two of them (docs/CONSOLE.md).
-use Rattle.std.specs.Prelude.{ℕ, zero, suc, ◌+◌, ◌-◌, ◌≤◌, ◌<◌, min, ◌≡◌, refl, List, [], ◌∷◌, Bool, true, false, not, length, take, drop, eqb, leb}
-use Rattle.std.proofs.Common.{sym, ap, ◌∙◌, arith, leb-true, leb-false}
+use Rattle.std.specs.Prelude.{ℕ, zero, suc, ◌+◌, ◌-◌, ◌≤◌, ◌<◌, min, ◌≡◌, refl, List, [], ◌∷◌, Bool, true, false, not, cond, length, take, drop, eqb, leb, ltb, Option, Some, None}
+use Rattle.std.proofs.Common.{sym, ap, ◌∙◌, arith, leb-true, leb-false, ltb-false, length-drop, take_all}
+use Rattle.std.proofs.lemmas.List.Sums.{prefix_len-le-length}
 use Rattle.std.proofs.Math.Seq.{slice, slice_empty, take-length, take-nil, drop-nil}
 use Rattle.scan.specs.Slices.{slice-clamp, slice-none}
-use Rattle.text.specs.Words.{munch_at}
+use Rattle.std.specs.List.{position_or_len, position}
+use Rattle.std.specs.Option.{option_map_or}
+use Rattle.text.specs.Words.{munch, munch_at}
 use Rattle.text.proofs.TokensLaws.{munch-at-within}
 use Rattle.lines.specs.declared.Part.{Part}
 
@@ -31,6 +34,36 @@ pub found : (line : List ℕ) (at byte r : ℕ) → r ≡ find_of line at byte �
 found line at byte r e =
     let within = munch-at-within (differs byte) line (min at (length line)) (omega arith) in
     record { place = e; from = rw e within.0; fits = rw e within.1 }
+
+-- that place, as an iterator finds it
+munch-first : (byte at : ℕ) (x : ℕ) (xs : List ℕ) → munch (differs byte) xs (at + 1) ≡ at + 1 + position_or_len (λ b. eqb b byte) xs → munch (differs byte) (x ∷ xs) at ≡ at + position_or_len (λ b. eqb b byte) (x ∷ xs)
+unfolding munch
+munch-first byte at x xs h = go (eqb x byte) refl
+  where
+    go : (t : Bool) → eqb x byte ≡ t → munch (differs byte) (x ∷ xs) at ≡ at + position_or_len (λ b. eqb b byte) (x ∷ xs)
+    go true e = simp e (omega arith)
+    go false e = simp e (rw h (omega arith))
+
+munch-position : (byte : ℕ) (xs : List ℕ) (at : ℕ) → munch (differs byte) xs at ≡ at + position_or_len (λ b. eqb b byte) xs
+unfolding munch
+munch-position byte [] at = omega arith
+munch-position byte (x ∷ xs) at = munch-first byte at x xs (munch-position byte xs (at + 1))
+
+place-in : (p : ℕ → Bool) (xs : List ℕ) (from long : ℕ) → long ≡ from + length xs → option_map_or (λ n. from + n) (position p xs) long ≡ from + position_or_len p xs
+place-in p xs from long e = go (ltb (position_or_len p xs) (length xs)) refl
+  where
+    go : (t : Bool) → ltb (position_or_len p xs) (length xs) ≡ t → option_map_or (λ (n : ℕ). from + n) (cond t (Some (position_or_len p xs)) None) long ≡ from + position_or_len p xs
+    go true h = refl
+    go false h =
+        let n : length xs ≤ position_or_len p xs = ltb-false _ _ h in
+        let m : position_or_len p xs ≤ length xs = prefix_len-le-length (λ (b : ℕ). not (p b)) xs in
+        omega arith
+
+pub find-position : (line : List ℕ) (at byte from : ℕ) → from ≡ min at (length line) → (r : Option ℕ) → r ≡ position (λ b. eqb b byte) (take (length line - from) (drop from line)) → option_map_or (λ n. from + n) r (length line) ≡ find_of line at byte
+find-position line at byte from e r q =
+    let l = length-drop from line in
+    let all = take_all (length line - from) (drop from line) (omega arith) in
+    rw (← e, munch-position byte (drop from line) from, q, all) (place-in (λ b. eqb b byte) (drop from line) from (length line) (omega arith))
 
 -- what is behind the first bytes, as a part that ends with the whole
 pub part-behind : (n : ℕ) (w : List ℕ) → slice n (length w) w ≡ drop n w

@@ -81,6 +81,15 @@ digits-part {n} {from} {all} d = take_all (20 - from) (drop from all) (simp leng
 
 -- ---- bytes
 
+module _ (n : ℕ) where
+  pub glyph-digit : n % 16 ≤ 9 → 48 + n % 16 ≡ glyph_of n
+  unfolding glyph_of
+  glyph-digit h = let l : n % 16 < 10 = omega arith in simp (lt-ltb _ _ l)
+
+  pub glyph-letter : 10 ≤ n % 16 → 97 + (n % 16 - 10) ≡ glyph_of n
+  unfolding glyph_of
+  glyph-letter h = let e : 97 + (n % 16 - 10) ≡ 87 + n % 16 = omega arith in e ∙ simp (le-ltb _ _ h)
+
 pub pair_is : (x : ℕ) → pairs_of (x ∷ []) ≡ glyph_of (x / 16) ∷ glyph_of x ∷ []
 unfolding pairs_of
 pair_is x = refl

@@ -3,11 +3,12 @@
 // Builds on scan and cells.
 #![tactic(auto)]
 
-ghost use Rattle.std.specs.Prelude.{◌≡◌, min, length, eqb};
+ghost use Rattle.std.specs.Prelude.{◌≡◌, ◌==◌, length, eqb, position};
 ghost use Rattle.std.proofs.Math.Seq.{slice};
 ghost use Rattle.model.specs.Bytes.{same};
 ghost use Rattle.lines.specs.Parts.{Found, word_at};
 
+pub mod input;
 pub mod numbers;
 pub mod saying;
 pub mod values;
@@ -20,38 +21,33 @@ pub struct Part {
     pub next: usize,
 }
 
-fn least(a: usize, b: usize) -> usize
-    ensures { result ≡ min a b }
+// The place of the first such byte.
+fn first(bytes: &[u8], byte: u8) -> Option<usize>
+    ensures { result ≡ position (λ b. b == byte) bytes.now }
 {
-    if a < b {
-        return a;
-    }
-    b
+    bytes.iter().position(|&b| b == byte)
 }
 
 // The place of the first such byte from a place on; the line's end where there is none.
 pub fn find(line: &[u8], at: usize, byte: u8) -> usize
     ensures { Found line.now at byte result }
 {
-    let mut i = least(at, line.len());
-    while i < line.len() {
-        if line[i] == byte {
-            return i;
-        }
-        i += 1;
+    let from = at.min(line.len());
+    match first(&line[from..], byte) {
+        Some(n) => from + n,
+        None => line.len(),
     }
-    i
 }
 
 // The word that begins at a place.
 pub fn word(line: &[u8], at: usize) -> Part
     ensures { result ≡ word_at line.now at }
 {
-    let end = find(line, at, 32);
+    let to = find(line, at, b' ');
     Part {
         from: at,
-        to: end,
-        next: end + 1,
+        to,
+        next: to + 1,
     }
 }
 
@@ -73,7 +69,6 @@ pub fn is<'a>(line: &'a [u8], part: Part, word: &'a [u8]) -> bool
 fn cut(line: &[u8], from: usize, to: usize) -> &[u8]
     ensures { result.now ≡ slice from to line.now }
 {
-    let end = least(to, line.len());
-    let begin = least(from, end);
-    &line[begin..end]
+    let end = to.min(line.len());
+    &line[from.min(end)..end]
 }

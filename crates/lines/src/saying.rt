@@ -1,4 +1,5 @@
 // The words of an answer, put one behind the other into a buffer; what is behind its end is lost.
+// Buffer and place stay two parameters: that no second answer fits is proved of these (settled, `saying-byte-settled` and the five behind it).
 ghost use Rattle.std.specs.Prelude.{◌≡◌, [], ◌∷◌, ◌-◌};
 ghost use Rattle.lines.specs.Buffers.{Said};
 ghost use Rattle.lines.specs.Sayings.{decimal_of, glyph_of, hex_of, pairs_of, int_of, value_of, values_behind, values_of};
@@ -10,9 +11,10 @@ pub fn byte(out: &mut [u8], at: usize, byte: u8) -> usize
 {
     if at < out.len() {
         out[at] = byte;
-        return at + 1;
+        at + 1
+    } else {
+        at
     }
-    at
 }
 
 // A word's bytes.
@@ -20,10 +22,8 @@ pub fn text(out: &mut [u8], at: usize, word: &[u8]) -> usize
     ensures { Said out.old at word.now out.new result }
 {
     let mut next = at;
-    let mut k = 0;
-    while k < word.len() {
-        next = byte(out, next, word[k]);
-        k += 1;
+    for &letter in word {
+        next = byte(out, next, letter);
     }
     next
 }
@@ -38,38 +38,35 @@ struct Digits {
 fn counted(number: u64) -> Digits
     ensures { DigitsOf number result.all result.from }
 {
-    let mut all = [48u8; 20];
+    let mut all = [b'0'; 20];
     let mut left = number;
-    let mut k = 20;
+    let mut from = 20;
     while left > 9 {
-        k -= 1;
-        all[k] = 48 + (left % 10) as u8;
-        left = left / 10;
+        from -= 1;
+        all[from] = b'0' + (left % 10) as u8;
+        left /= 10;
     }
-    k -= 1;
-    all[k] = 48 + left as u8;
-    Digits { all: all, from: k }
+    from -= 1;
+    all[from] = b'0' + left as u8;
+    Digits { all, from }
 }
 
 // A number, without leading zeros.
 pub fn decimal(out: &mut [u8], at: usize, number: u64) -> usize
     ensures { Said out.old at (decimal_of number) out.new result }
 {
-    let said = counted(number);
-    let all = said.all;
-    let from = said.from;
-    text(out, at, &all[from..20])
+    let Digits { all, from } = counted(number);
+    text(out, at, &all[from..])
 }
 
 // The last hexadecimal digit of a number.
 fn glyph(number: u8) -> u8
     ensures { result ≡ glyph_of number }
 {
-    let d = number % 16;
-    if d < 10 {
-        return 48 + d;
+    match number % 16 {
+        d @ 0..=9 => b'0' + d,
+        d => b'a' + (d - 10),
     }
-    87 + d
 }
 
 // A byte by two digits.
@@ -84,10 +81,8 @@ fn pairs(out: &mut [u8], at: usize, bytes: &[u8]) -> usize
     ensures { Said out.old at (pairs_of bytes.now) out.new result }
 {
     let mut next = at;
-    let mut k = 0;
-    while k < bytes.len() {
-        next = pair(out, next, bytes[k]);
-        k += 1;
+    for &number in bytes {
+        next = pair(out, next, number);
     }
     next
 }
@@ -96,21 +91,24 @@ fn pairs(out: &mut [u8], at: usize, bytes: &[u8]) -> usize
 pub fn hex(out: &mut [u8], at: usize, bytes: &[u8]) -> usize
     ensures { Said out.old at (hex_of bytes.now) out.new result }
 {
-    if bytes.len() == 0 {
-        return byte(out, at, 45);
+    if bytes.is_empty() {
+        byte(out, at, b'-')
+    } else {
+        pairs(out, at, bytes)
     }
-    pairs(out, at, bytes)
 }
 
 // An int of a word in two's complement.
 fn int(out: &mut [u8], at: usize, word: u32) -> usize
     ensures { Said out.old at (int_of word) out.new result }
 {
-    if word < 2147483648 {
-        return decimal(out, at, word as u64);
+    let number = word as u64;
+    if number < 2147483648 {
+        decimal(out, at, number)
+    } else {
+        let minus = byte(out, at, b'-');
+        decimal(out, minus, 4294967296 - number)
     }
-    let minus = byte(out, at, 45);
-    decimal(out, minus, 4294967296 - (word as u64))
 }
 
 // A word as a value of its type.
@@ -118,11 +116,12 @@ pub fn value(out: &mut [u8], at: usize, typ: u32, word: u32) -> usize
     ensures { Said out.old at (value_of typ word) out.new result }
 {
     if typ == 1 {
-        let front = byte(out, at, 98);
-        return decimal(out, front, word as u64);
+        let front = byte(out, at, b'b');
+        decimal(out, front, word as u64)
+    } else {
+        let front = byte(out, at, b'i');
+        int(out, front, word)
     }
-    let front = byte(out, at, 105);
-    int(out, front, word)
 }
 
 // The values from the second on, a comma before each.
@@ -130,11 +129,9 @@ fn others<'a>(out: &mut [u8], at: usize, types: &'a [u32], words: &'a [u32], man
     ensures { Said out.old at (values_behind types.now words.now 1 (many - 1)) out.new result }
 {
     let mut next = at;
-    let mut k = 1;
-    while k < many {
-        let front = byte(out, next, 44);
+    for k in 1..many {
+        let front = byte(out, next, b',');
         next = value(out, front, cells::at32(types, k), cells::at32(words, k));
-        k += 1;
     }
     next
 }
@@ -150,8 +147,9 @@ pub fn values<'a>(
     ensures { Said out.old at (values_of types.now words.now many) out.new result }
 {
     if many == 0 {
-        return byte(out, at, 45);
+        byte(out, at, b'-')
+    } else {
+        let front = value(out, at, cells::at32(types, 0), cells::at32(words, 0));
+        others(out, front, types, words, many)
     }
-    let front = value(out, at, cells::at32(types, 0), cells::at32(words, 0));
-    others(out, front, types, words, many)
 }

@@ -1,133 +1,96 @@
 // Values in a line: `b0`, `b1`, `i` and an int, joined by commas; `-` for none.
 ghost use Rattle.std.specs.Prelude.{◌≡◌};
 ghost use Rattle.std.proofs.Math.Seq.{slice};
-ghost use Rattle.lines.specs.Values.{no_value, boolean_in, positive_of, negative_of, int_in, value_in, pieces, all_values, Lists};
+ghost use Rattle.lines.specs.Values.{boolean_in, positive_of, negative_of, int_in, value_in, pieces, all_values, Lists};
 ghost use Rattle.lines.specs.ValuesLaws.{Filled};
 
-use super::numbers::Number;
 use super::{Part, numbers};
-
-// Values, and how many are kept of them.
-#[derive(Clone, Copy)]
-pub struct Listed {
-    pub good: bool,
-    pub count: usize,
-}
 
 // A type and a word; the type 2, which no port has, for an int beyond 32 bits.
 #[derive(Clone, Copy)]
 struct Value {
-    good: bool,
     typ: u32,
     word: u32,
 }
 
-fn none() -> Value
-    ensures { result ≡ no_value }
-{
-    Value {
-        good: false,
-        typ: 2,
-        word: 0,
+impl Value {
+    const BEYOND: Value = Value { typ: 2, word: 0 };
+
+    fn int(word: u32) -> Value
+        ensures { result ≡ record { typ = 0; word = word } }
+    {
+        Value { typ: 0, word }
+    }
+
+    fn boolean(word: u32) -> Value
+        ensures { result ≡ record { typ = 1; word = word } }
+    {
+        Value { typ: 1, word }
     }
 }
 
-// A positive int.
-fn positive(n: Number) -> Value
-    ensures { result ≡ positive_of n }
+// An int of such a size.
+fn positive(size: u64) -> Value
+    ensures { result ≡ positive_of size }
 {
-    if !n.good {
-        return none();
-    }
-    if n.value < 2147483648 {
-        return Value {
-            good: true,
-            typ: 0,
-            word: n.value as u32,
-        };
-    }
-    Value {
-        good: true,
-        typ: 2,
-        word: 0,
+    if size < 2147483648 {
+        Value::int(size as u32)
+    } else {
+        Value::BEYOND
     }
 }
 
-// A negative one, by the size of it.
-fn negative(n: Number) -> Value
-    ensures { result ≡ negative_of n }
+// A negative one, in two's complement.
+fn negative(size: u64) -> Value
+    ensures { result ≡ negative_of size }
 {
-    if !n.good {
-        return none();
-    }
-    if n.value == 0 {
-        return Value {
-            good: true,
-            typ: 0,
-            word: 0,
-        };
-    }
-    if n.value <= 2147483648 {
-        return Value {
-            good: true,
-            typ: 0,
-            word: (4294967296 - n.value) as u32,
-        };
-    }
-    Value {
-        good: true,
-        typ: 2,
-        word: 0,
+    match size {
+        0 => Value::int(0),
+        1..=2147483648 => Value::int((4294967296 - size) as u32),
+        _ => Value::BEYOND,
     }
 }
 
-fn int(word: &[u8]) -> Value
+fn int(word: &[u8]) -> Option<Value>
     ensures { result ≡ int_in word.now }
 {
-    if cells::at8(word, 1) == 45 {
-        return negative(numbers::decimal(word, 2, word.len()));
+    if cells::at8(word, 1) == b'-' {
+        Some(negative(numbers::decimal(word, 2, word.len())?))
+    } else {
+        Some(positive(numbers::decimal(word, 1, word.len())?))
     }
-    positive(numbers::decimal(word, 1, word.len()))
 }
 
-fn boolean(word: &[u8]) -> Value
+fn boolean(word: &[u8]) -> Option<Value>
     ensures { result ≡ boolean_in word.now }
 {
-    if scan::same(word, 0, word.len(), b"b0") {
-        return Value {
-            good: true,
-            typ: 1,
-            word: 0,
-        };
+    if word == b"b0".as_slice() {
+        Some(Value::boolean(0))
+    } else if word == b"b1".as_slice() {
+        Some(Value::boolean(1))
+    } else {
+        None
     }
-    if scan::same(word, 0, word.len(), b"b1") {
-        return Value {
-            good: true,
-            typ: 1,
-            word: 1,
-        };
-    }
-    none()
 }
 
-fn one(word: &[u8]) -> Value
+fn one(word: &[u8]) -> Option<Value>
     ensures { result ≡ value_in word.now }
 {
-    if cells::at8(word, 0) == 105 {
-        return int(word);
+    if cells::at8(word, 0) == b'i' {
+        int(word)
+    } else {
+        boolean(word)
     }
-    boolean(word)
 }
 
-// Whether all that stands between the commas is values.
+// Whether all that stands between the commas is values. A chain over `split` was tried: the search for its proof ends at a limit.
 fn all_good(word: &[u8]) -> bool
     ensures { result ≡ all_values (pieces word.now) }
 {
     let mut at = 0;
     while at <= word.len() {
-        let end = super::find(word, at, 44);
-        let found = one(super::cut(word, at, end));
-        if !found.good {
+        let end = super::find(word, at, b',');
+        if one(super::cut(word, at, end)).is_none() {
             return false;
         }
         at = end + 1;
@@ -142,37 +105,27 @@ fn fill(word: &[u8], types: &mut [u32], words: &mut [u32]) -> usize
     let mut count = 0;
     let mut at = 0;
     while at <= word.len() {
-        let end = super::find(word, at, 44);
-        let found = one(super::cut(word, at, end));
-        cells::put32(types, count, found.typ);
-        cells::put32(words, count, found.word);
+        let end = super::find(word, at, b',');
+        let value = one(super::cut(word, at, end)).unwrap_or(Value::BEYOND);
+        cells::put32(types, count, value.typ);
+        cells::put32(words, count, value.word);
         count += 1;
         at = end + 1;
     }
     count
 }
 
-// The values that a word says: types and words, one behind the other, as many as there is room for.
-pub fn values(line: &[u8], part: Part, types: &mut [u32], words: &mut [u32]) -> Listed
+// The values that a word says: types and words, one behind the other, as many as there is room for; how many are kept.
+pub fn values(line: &[u8], part: Part, types: &mut [u32], words: &mut [u32]) -> Option<usize>
     ensures { Lists (slice part.from part.to line.now) types.old words.old types.new words.new result }
 {
-    if scan::same(line, part.from, part.to, b"-") {
-        return Listed {
-            good: true,
-            count: 0,
-        };
-    }
     let word = super::cut(line, part.from, part.to);
+    if word == b"-".as_slice() {
+        return Some(0);
+    }
     if !all_good(word) {
-        return Listed {
-            good: false,
-            count: 0,
-        };
+        return None;
     }
     let count = fill(word, types, words);
-    let room = super::least(types.len(), words.len());
-    Listed {
-        good: true,
-        count: super::least(count, room),
-    }
+    Some(count.min(types.len()).min(words.len()))
 }

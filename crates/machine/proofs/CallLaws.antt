@@ -1,12 +1,11 @@
 -- What each call answers, case by case, and what it leaves as it was (document 01, 'The machine').
-use Rattle.std.specs.Prelude.{ℕ, ◌≡◌, refl, Bool, true, false, cond, List}
+use Rattle.std.specs.Prelude.{ℕ, ◌≡◌, refl, Bool, true, false, cond, List, Ok}
 use Rattle.std.proofs.Common.{◌∙◌}
 use Rattle.std.proofs.Math.Path.{ap}
 use Rattle.std.proofs.Math.Option.{Option}
 use Rattle.model.specs.Clock.{elapsed, Instant, judged, fits}
 use Rattle.machine.specs.declared.Reaction.TheVariants as R
-use Rattle.machine.specs.declared.Turn.TheVariants as T
-use Rattle.machine.specs.declared.Finishing.TheVariants as F
+use Rattle.machine.specs.Told.{refuse}
 use Rattle.machine.specs.Words.{lowest_in}
 use Rattle.machine.specs.Boards.{Board}
 use Rattle.machine.specs.Calls.{State, by_instant, reading_types, result_types, tick, handed_out, next_task, at_work, finish}
@@ -42,7 +41,7 @@ module _ (b : Board) (m : State) (count : ℕ) (types words : List ℕ) where
 -- ---- next task
 
 module _ (m : State) where
-  pub next-stopped : m.stopped ≡ true → next_task m ≡ record { answer = T.Refused 31; state = m }
+  pub next-stopped : m.stopped ≡ true → next_task m ≡ record { answer = refuse 31; state = m }
   unfolding next_task
   next-stopped stopped = chosen m.stopped _ _ stopped
 
@@ -53,18 +52,18 @@ module _ (m : State) where
 -- ---- finish
 
 module _ (b : Board) (m : State) (task : ℕ) (types words : List ℕ) where
-  pub finish-stopped : m.stopped ≡ true → finish b m task types words ≡ record { answer = F.Refused 31; state = m }
+  pub finish-stopped : m.stopped ≡ true → finish b m task types words ≡ record { answer = refuse 31; state = m }
   unfolding finish
   finish-stopped stopped = chosen m.stopped _ _ stopped
 
-  pub finish-idle : m.stopped ≡ false → at_work m.store task ≡ false → finish b m task types words ≡ record { answer = F.Refused 34; state = m }
+  pub finish-idle : m.stopped ≡ false → at_work m.store task ≡ false → finish b m task types words ≡ record { answer = refuse 34; state = m }
   unfolding finish
   finish-idle live idle = passed m.stopped _ _ live ∙ passed (at_work m.store task) _ _ idle
 
-  pub finish-unfit : m.stopped ≡ false → at_work m.store task ≡ true → fits (result_types b task) types words ≡ false → finish b m task types words ≡ record { answer = F.Refused 35; state = m }
+  pub finish-unfit : m.stopped ≡ false → at_work m.store task ≡ true → fits (result_types b task) types words ≡ false → finish b m task types words ≡ record { answer = refuse 35; state = m }
   unfolding finish
   finish-unfit live work unfit = passed m.stopped _ _ live ∙ chosen (at_work m.store task) _ _ work ∙ passed (fits (result_types b task) types words) _ _ unfit
 
-  pub finish-taken : m.stopped ≡ false → at_work m.store task ≡ true → fits (result_types b task) types words ≡ true → finish b m task types words ≡ record { answer = F.Taken; state = (taken b m task types words) }
+  pub finish-taken : m.stopped ≡ false → at_work m.store task ≡ true → fits (result_types b task) types words ≡ true → finish b m task types words ≡ record { answer = Ok tt; state = (taken b m task types words) }
   unfolding finish
   finish-taken live work fit = passed m.stopped _ _ live ∙ chosen (at_work m.store task) _ _ work ∙ chosen (fits (result_types b task) types words) _ _ fit

@@ -1,7 +1,7 @@
 -- Laws: releases so far equal terminations plus tasks out, over every history of calls: terminations of tasks that were out, tasks out by the word.
 use Prim.Native.Nat.{ℕ, zero, suc, ◌+◌, ◌-◌, ◌^◌, ◌<◌}
 use Rattle.std.proofs.Common.{arith, ap, ltb-true}
-use Rattle.std.specs.Prelude.{◌≡◌, true, false, get_or, drop, length, ltb}
+use Rattle.std.specs.Prelude.{◌≡◌, true, false, get_or, drop, length, ltb, Some, None, Ok, Err}
 use Rattle.std.proofs.Math.Path.{refl}
 use Rattle.std.proofs.Math.Bool.{Bool, cond}
 use Rattle.std.proofs.Math.Option.{Option, none, some}
@@ -10,10 +10,7 @@ use Rattle.std.proofs.Math.Dec.{lit<}
 use Rattle.model.specs.Instructions.{Instr, nop, future, call, release, iff, jump, return, switch, Driver, updates, releases, terminates}
 use Rattle.model.specs.Clock.{elapsed, Instant, early, due, missed, judged, fits}
 use Rattle.machine.specs.declared.Reaction.TheVariants as R
-use Rattle.machine.specs.declared.Turn.{Turn}
-use Rattle.machine.specs.declared.Turn.TheVariants as T
-use Rattle.machine.specs.declared.Finishing.{Finishing}
-use Rattle.machine.specs.declared.Finishing.TheVariants as F
+use Rattle.machine.specs.Told.{Turn, Finishing}
 use Rattle.machine.specs.Words.{has, joined, parted, count_from, count_in}
 use Rattle.machine.specs.WordLaws.{has_within, hasnt-bit, set-fits, count-joined, count-parted}
 use Rattle.machine.specs.Boards.{Board}
@@ -171,14 +168,14 @@ module _ (b : Board) (fine : Within b.code) where
   call-balanced a next balanced = kept a _ (go (next_task a.state).answer (next-leaves a.state)) balanced
     where
       go : (answer : Turn) → LeavesNext a.state answer (next_task a.state).state → (next_task a.state).state.store.out ≡ a.state.store.out
-      go (T.Task task) left = ap (λ (after : State). after.store.out) left
-      go T.Nobody left = ap (λ (after : State). after.store.out) left
-      go (T.Refused number) left = ap (λ (after : State). after.store.out) left
+      go (Ok (Some task)) left = ap (λ (after : State). after.store.out) left
+      go (Ok None) left = ap (λ (after : State). after.store.out) left
+      go (Err why) left = ap (λ (after : State). after.store.out) left
   call-balanced a (finish task types words) balanced = kept a _ (go (C.finish b a.state task types words).answer (finish-leaves b a.state task types words)) balanced
     where
       go : (answer : Finishing) → LeavesFinish a.state task words answer (C.finish b a.state task types words).state → (C.finish b a.state task types words).state.store.out ≡ a.state.store.out
-      go F.Taken left = ap (λ (after : State). after.store.out) left
-      go (F.Refused number) left = ap (λ (after : State). after.store.out) left
+      go (Ok _) left = ap (λ (after : State). after.store.out) left
+      go (Err why) left = ap (λ (after : State). after.store.out) left
 
   history-balanced : (a : Account) (calls : List Ask) → Balanced a → Balanced (history b a calls)
   unfolding history

@@ -1,6 +1,6 @@
 -- What each answer says of the machine after the call (document 01, 'The machine'): a refused call changes nothing; a fault leaves all as before the call
 -- but that the machine is stopped, by which fault, and which task was late; an idle tick changes the count and what remains; finish changes no port.
-use Rattle.std.specs.Prelude.{ℕ, ◌-◌, ◌*◌, ◌≡◌, Bool, cond, List, eqb, ltb}
+use Rattle.std.specs.Prelude.{ℕ, ◌-◌, ◌*◌, ◌≡◌, Bool, cond, List, eqb, ltb, Ok, Err}
 use Rattle.std.proofs.Math.Path.{refl}
 use Rattle.std.proofs.Common.{ap, ltb-true}
 use Rattle.std.proofs.Math.Bool.{true, false}
@@ -9,9 +9,7 @@ use Rattle.model.specs.Rooms.{port_room}
 use Rattle.model.specs.Modules.{place}
 use Rattle.model.specs.Clock.{elapsed, early, due, missed, judged, fits}
 use Rattle.machine.specs.declared.Reaction.TheVariants as R
-use Rattle.machine.specs.declared.Turn.TheVariants as T
-use Rattle.machine.specs.declared.Finishing.{Finishing}
-use Rattle.machine.specs.declared.Finishing.TheVariants as F
+use Rattle.machine.specs.Told.{Finishing, refuse}
 use Rattle.machine.specs.Words.{joined, lowest_in}
 use Rattle.machine.specs.Boards.{Board}
 use Rattle.machine.specs.Instructions.{late, wild, astray, clash, Res, ok, bad, Halt, Tally}
@@ -56,7 +54,7 @@ pub next-leaves : (m : State) → LeavesNext m (next_task m).answer (next_task m
 unfolding next_task
 next-leaves m = go m.stopped (lowest_in m.store.waiting)
   where
-    go : (stopped : Bool) (found : Option ℕ) → LeavesNext m (cond stopped (record { answer = T.Refused 31; state = m }) (handed_out m found)).answer (cond stopped (record { answer = T.Refused 31; state = m }) (handed_out m found)).state
+    go : (stopped : Bool) (found : Option ℕ) → LeavesNext m (cond stopped (record { answer = refuse 31; state = m }) (handed_out m found)).answer (cond stopped (record { answer = refuse 31; state = m }) (handed_out m found)).state
     go true found = refl
     go false none = refl
     go false (some task) = refl
@@ -68,14 +66,14 @@ module _ (b : Board) (m : State) (task : ℕ) (types words : List ℕ) where
     where
       taken : Finished
       taken = record {
-        answer = F.Taken;
+        answer = Ok tt;
         state = with_words m (record { ports = m.store.ports; out = m.store.out; waiting = m.store.waiting; finished = joined m.store.finished task }) (place (task * port_room) words m.aside);
       }
 
       by : Bool → Bool → Bool → Finished
       by stopped work fit =
-          cond stopped (record { answer = F.Refused 31; state = m })
-          (cond work (cond fit taken (record { answer = F.Refused 35; state = m })) (record { answer = F.Refused 34; state = m }))
+          cond stopped (record { answer = refuse 31; state = m })
+          (cond work (cond fit taken (record { answer = refuse 35; state = m })) (record { answer = refuse 34; state = m }))
 
       go : (stopped work fit : Bool) → LeavesFinish m task words (by stopped work fit).answer (by stopped work fit).state
       go true work fit = refl
@@ -87,5 +85,5 @@ module _ (b : Board) (m : State) (task : ℕ) (types words : List ℕ) where
   finish-keeps-ports = go (finish b m task types words).answer finish-leaves
     where
       go : (answer : Finishing) → LeavesFinish m task words answer (finish b m task types words).state → (finish b m task types words).state.store.ports ≡ m.store.ports
-      go F.Taken left = ap (λ (after : State). after.store.ports) left
-      go (F.Refused number) left = ap (λ (after : State). after.store.ports) left
+      go (Ok _) left = ap (λ (after : State). after.store.ports) left
+      go (Err why) left = ap (λ (after : State). after.store.ports) left

@@ -1,7 +1,7 @@
 -- Laws: no other answer exists. Start, tick, next and finish answer with document 01's numbers alone ('The machine'), and with instructions only where some were obeyed.
 use Prim.Native.Nat.{ℕ, zero, suc, ◌+◌, ◌≤◌}
 use native.Mathlib.Omega.{arith}
-use Rattle.std.specs.Prelude.{◌≡◌, ◌≢◌, Bool, cond, length, get_or, drop}
+use Rattle.std.specs.Prelude.{◌≡◌, ◌≢◌, Bool, cond, length, get_or, drop, Some, None, Ok, Err}
 use Rattle.std.proofs.Math.Path.{refl}
 use Rattle.std.proofs.Math.Bool.{true, false}
 use Rattle.std.proofs.Math.Option.{Option, none, some}
@@ -12,10 +12,7 @@ use Rattle.file.specs.Tables.{Table}
 use Rattle.file.specs.Files.{sound}
 use Rattle.machine.specs.declared.Reaction.{Reaction}
 use Rattle.machine.specs.declared.Reaction.TheVariants as R
-use Rattle.machine.specs.declared.Turn.{Turn}
-use Rattle.machine.specs.declared.Turn.TheVariants as T
-use Rattle.machine.specs.declared.Finishing.{Finishing}
-use Rattle.machine.specs.declared.Finishing.TheVariants as F
+use Rattle.machine.specs.Told.{Turn, Finishing, refuse}
 use Rattle.machine.specs.Words.{lowest_in}
 use Rattle.machine.specs.Boards.{Board, board_of}
 use Rattle.machine.specs.Instructions.{Fault, late, wild, astray, clash, Res, ok, bad, Ops, Future, Tally, no_tally, counted, step, Halt, Run, go_on, only, leave, exec}
@@ -101,23 +98,23 @@ module _ (b : Board) (P : Reaction → Type 0) (obeyed : (instructions : ℕ) �
       go true false = p32
       go false fit = p30
 
-next-answers : (P : Turn → Type 0) → ((task : ℕ) → P (T.Task task)) → P T.Nobody → P (T.Refused 31) → (m : State) → P (next_task m).answer
+next-answers : (P : Turn → Type 0) → ((task : ℕ) → P (Ok (Some task))) → P (Ok None) → P (refuse 31) → (m : State) → P (next_task m).answer
 unfolding next_task
 next-answers P task nobody p31 m = go m.stopped (lowest_in m.store.waiting)
   where
-    go : (stopped : Bool) (found : Option ℕ) → P (cond stopped (record { answer = T.Refused 31; state = m }) (handed_out m found)).answer
+    go : (stopped : Bool) (found : Option ℕ) → P (cond stopped (record { answer = refuse 31; state = m }) (handed_out m found)).answer
     go true found = p31
     go false none = nobody
     go false (some n) = task n
 
-finish-answers : (P : Finishing → Type 0) → P F.Taken → P (F.Refused 31) → P (F.Refused 34) → P (F.Refused 35) → (b : Board) (m : State) (task : ℕ) (types words : List ℕ) → P (finish b m task types words).answer
+finish-answers : (P : Finishing → Type 0) → P (Ok tt) → P (refuse 31) → P (refuse 34) → P (refuse 35) → (b : Board) (m : State) (task : ℕ) (types words : List ℕ) → P (finish b m task types words).answer
 unfolding finish
 finish-answers P took p31 p34 p35 b m task types words = go m.stopped (at_work m.store task) (fits (result_types b task) types words)
   where
     by : Bool → Bool → Bool → Finished
     by stopped work fit =
-        cond stopped (record { answer = F.Refused 31; state = m })
-        (cond work (cond fit (record { answer = F.Taken; state = taken b m task types words }) (record { answer = F.Refused 35; state = m })) (record { answer = F.Refused 34; state = m }))
+        cond stopped (record { answer = refuse 31; state = m })
+        (cond work (cond fit (record { answer = Ok tt; state = taken b m task types words }) (record { answer = refuse 35; state = m })) (record { answer = refuse 34; state = m }))
 
     go : (stopped work fit : Bool) → P (by stopped work fit).answer
     go true work fit = p31
@@ -173,11 +170,11 @@ obeyed-only (R.Fault number) other = refl
 
 -- next counts nothing
 pub next-uncounted : (answer : Turn) → (turn_means answer).instructions ≡ 0
-next-uncounted (T.Task task) = refl
-next-uncounted T.Nobody = refl
-next-uncounted (T.Refused number) = refl
+next-uncounted (Ok (Some task)) = refl
+next-uncounted (Ok None) = refl
+next-uncounted (Err why) = refl
 
 -- finish counts nothing
 pub finish-uncounted : (answer : Finishing) → (finishing_means answer).instructions ≡ 0
-finish-uncounted F.Taken = refl
-finish-uncounted (F.Refused number) = refl
+finish-uncounted (Ok _) = refl
+finish-uncounted (Err why) = refl

@@ -1,12 +1,9 @@
 -- For each enum of answers, document 01's number and values for each of its cases.
-use Rattle.std.specs.Prelude.{ℕ}
+use Rattle.std.specs.Prelude.{ℕ, Some, None, Ok, Err}
 use Rattle.std.proofs.Math.Option.{Option, none, some}
 use Rattle.machine.specs.declared.Reaction.{Reaction}
 use Rattle.machine.specs.declared.Reaction.TheVariants as R
-use Rattle.machine.specs.declared.Turn.{Turn}
-use Rattle.machine.specs.declared.Turn.TheVariants as T
-use Rattle.machine.specs.declared.Finishing.{Finishing}
-use Rattle.machine.specs.declared.Finishing.TheVariants as F
+use Rattle.machine.specs.Told.{Turn, Finishing}
 
 -- The number of a refusal or fault (0: none), the number of instructions obeyed, and the task that is named.
 pub record Meaning : Type 0 where
@@ -28,11 +25,11 @@ reaction_means (R.Fault number) = meaning number 0 none
 
 -- what next answers
 abbrev pub turn_means : Turn → Meaning
-turn_means (T.Task task) = meaning 0 0 (some task)
-turn_means T.Nobody = meaning 0 0 none
-turn_means (T.Refused number) = meaning number 0 none
+turn_means (Ok (Some task)) = meaning 0 0 (some task)
+turn_means (Ok None) = meaning 0 0 none
+turn_means (Err why) = meaning why.number 0 none
 
 -- what finish answers
 abbrev pub finishing_means : Finishing → Meaning
-finishing_means F.Taken = meaning 0 0 none
-finishing_means (F.Refused number) = meaning number 0 none
+finishing_means (Ok _) = meaning 0 0 none
+finishing_means (Err why) = meaning why.number 0 none

@@ -1,8 +1,7 @@
 -- What a host asks of a machine that is started, call by call (document 01, 'The machine').
 use Rattle.std.specs.Prelude.{ℕ, List, [], ◌∷◌}
 use Rattle.machine.specs.declared.Reaction.{Reaction}
-use Rattle.machine.specs.declared.Turn.{Turn}
-use Rattle.machine.specs.declared.Finishing.{Finishing}
+use Rattle.machine.specs.Told.{Turn, Finishing}
 use Rattle.machine.specs.Answers.{Meaning, reaction_means, turn_means, finishing_means}
 use Rattle.machine.specs.Boards.{Board}
 use Rattle.machine.specs.Calls as C

@@ -1,15 +1,12 @@
 -- The calls of a machine: tick, next task, finish and look (document 01, 'The machine').
-use Rattle.std.specs.Prelude.{ℕ, ◌*◌, Bool, true, cond, ◌&&◌, not, List, [], ltb}
+use Rattle.std.specs.Prelude.{ℕ, ◌*◌, Bool, true, cond, ◌&&◌, not, List, [], ltb, Some, None, Ok}
 use Rattle.std.proofs.Math.Option.{Option, none, some}
 use Rattle.model.specs.Rooms.{port_room, task_room}
 use Rattle.model.specs.Clock.{elapsed, Instant, early, due, missed, judged, fits}
 use Rattle.model.specs.Modules.{place}
 use Rattle.machine.specs.declared.Reaction.{Reaction}
 use Rattle.machine.specs.declared.Reaction.TheVariants.{Obeyed, Idle, Refused, Late, Fault}
-use Rattle.machine.specs.declared.Turn.{Turn}
-use Rattle.machine.specs.declared.Turn.TheVariants as T
-use Rattle.machine.specs.declared.Finishing.{Finishing}
-use Rattle.machine.specs.declared.Finishing.TheVariants as F
+use Rattle.machine.specs.Told.{Turn, Finishing, refuse}
 use Rattle.machine.specs.Words.{has, joined, parted, lowest_in, count_in}
 use Rattle.machine.specs.Boards.{Board}
 use Rattle.machine.specs.Instructions as E
@@ -154,16 +151,16 @@ with_words m store aside =
 
 -- the task handed out waits no more
 abbrev pub handed_out : State → Option ℕ → Handed
-handed_out m none = record { answer = T.Nobody; state = m }
+handed_out m none = record { answer = Ok None; state = m }
 handed_out m (some task) =
     record {
-      answer = T.Task task;
+      answer = Ok (Some task);
       state = with_words m (record { ports = m.store.ports; out = m.store.out; waiting = parted m.store.waiting task; finished = m.store.finished }) m.aside;
     }
 
 -- next: 31, the lowest task that waits, or none
 unfoldable pub next_task : State → Handed
-next_task m = cond m.stopped (record { answer = T.Refused 31; state = m }) (handed_out m (lowest_in m.store.waiting))
+next_task m = cond m.stopped (record { answer = refuse 31; state = m }) (handed_out m (lowest_in m.store.waiting))
 
 -- ---- finish stores results aside: 31; 34 task not handed out or already finished; 35 results of wrong count or type
 
@@ -175,9 +172,9 @@ at_work s task = ltb task task_room && (has s.out task && (not (has s.waiting ta
 unfoldable pub finish : Board → State → ℕ → List ℕ → List ℕ → Finished
 finish b m task types words =
     let store : Store = record { ports = m.store.ports; out = m.store.out; waiting = m.store.waiting; finished = joined m.store.finished task } in
-    let taken : Finished = record { answer = F.Taken; state = with_words m store (place (task * port_room) words m.aside) } in
-    cond m.stopped (record { answer = F.Refused 31; state = m })
-    (cond (at_work m.store task) (cond (fits (result_types b task) types words) taken (record { answer = F.Refused 35; state = m })) (record { answer = F.Refused 34; state = m }))
+    let taken : Finished = record { answer = Ok tt; state = with_words m store (place (task * port_room) words m.aside) } in
+    cond m.stopped (record { answer = refuse 31; state = m })
+    (cond (at_work m.store task) (cond (fits (result_types b task) types words) taken (record { answer = refuse 35; state = m })) (record { answer = refuse 34; state = m }))
 
 -- ---- look shows the whole machine; the tasks out are counted from the word
 

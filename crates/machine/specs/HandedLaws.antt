@@ -1,10 +1,9 @@
 -- The task that next task hands out is the lowest-numbered one that waits, and waits no longer.
-use Rattle.std.specs.Prelude.{ℕ, zero, suc, ◌+◌, ◌≤◌, ◌<◌, ◌≡◌, refl, Bool, true, false, cond, eqb}
+use Rattle.std.specs.Prelude.{ℕ, zero, suc, ◌+◌, ◌≤◌, ◌<◌, ◌≡◌, refl, Bool, true, false, cond, eqb, Some, None, Ok, Err}
 use Rattle.std.proofs.Common.{arith, sym, ◌∙◌, ap, eqb-true}
 use Rattle.std.proofs.Math.Option.{Option, none, some}
 use Rattle.std.proofs.lemmas.Bool.{eqb-false}
-use Rattle.machine.specs.declared.Turn.{Turn}
-use Rattle.machine.specs.declared.Turn.TheVariants as T
+use Rattle.machine.specs.Told.{Turn, refuse}
 use Rattle.machine.specs.Words.{has, lowest_from, lowest_in}
 use Rattle.machine.specs.WordLaws.{part_same, part-other}
 use Rattle.machine.specs.Calls.{State, handed_out, next_task}
@@ -47,16 +46,16 @@ pub record HandedOut (m : State) (task : ℕ) (after : State) : Type 0 where
   pub others : (other : ℕ) → (other ≡ task → ⊥) → has after.store.waiting other ≡ has m.store.waiting other
 
 abbrev pub Hands : State → Turn → State → Type 0
-Hands m (T.Task task) after = HandedOut m task after
-Hands m T.Nobody after = after ≡ m
-Hands m (T.Refused number) after = after ≡ m
+Hands m (Ok (Some task)) after = HandedOut m task after
+Hands m (Ok None) after = after ≡ m
+Hands m (Err why) after = after ≡ m
 
 pub next-hands : (m : State) → Hands m (next_task m).answer (next_task m).state
 unfolding next_task
 next-hands m = go m.stopped (lowest_in m.store.waiting) refl
   where
     go : (stopped : Bool) (found : Option ℕ) → lowest_in m.store.waiting ≡ found
-        → Hands m (cond stopped (record { answer = T.Refused 31; state = m }) (handed_out m found)).answer (cond stopped (record { answer = T.Refused 31; state = m }) (handed_out m found)).state
+        → Hands m (cond stopped (record { answer = refuse 31; state = m }) (handed_out m found)).answer (cond stopped (record { answer = refuse 31; state = m }) (handed_out m found)).state
     go true found is = refl
     go false none is = refl
     go false (some task) is = record {

@@ -1,15 +1,12 @@
 -- What each answer says of the machine after the call (document 01, 'The machine'): a refused call changes nothing; a fault leaves all as before the call
 -- but that the machine is stopped, by which fault, and which task was late; an idle tick changes the count and what remains; finish changes no port.
-use Rattle.std.specs.Prelude.{ℕ, ◌-◌, ◌*◌, ◌<◌, ◌≡◌, List}
+use Rattle.std.specs.Prelude.{ℕ, ◌-◌, ◌*◌, ◌<◌, ◌≡◌, List, Some, None, Ok, Err}
 use Rattle.model.specs.Rooms.{port_room}
 use Rattle.model.specs.Modules.{place}
 use Rattle.model.specs.Clock.{elapsed}
 use Rattle.machine.specs.declared.Reaction.{Reaction}
 use Rattle.machine.specs.declared.Reaction.TheVariants as R
-use Rattle.machine.specs.declared.Turn.{Turn}
-use Rattle.machine.specs.declared.Turn.TheVariants as T
-use Rattle.machine.specs.declared.Finishing.{Finishing}
-use Rattle.machine.specs.declared.Finishing.TheVariants as F
+use Rattle.machine.specs.Told.{Turn, Finishing}
 use Rattle.machine.specs.Words.{joined, parted}
 use Rattle.machine.specs.Calls.{State, stopped_by, idled, with_words}
 
@@ -40,14 +37,14 @@ Leaves m count (R.Fault number) after = after ≡ stopped_by number 0 m
 
 -- what each answer to next leaves
 abbrev pub LeavesNext : State → Turn → State → Type 0
-LeavesNext m (T.Task task) after =
+LeavesNext m (Ok (Some task)) after =
     after ≡ with_words m (record { ports = m.store.ports; out = m.store.out; waiting = parted m.store.waiting task; finished = m.store.finished }) m.aside
-LeavesNext m T.Nobody after = after ≡ m
-LeavesNext m (T.Refused number) after = after ≡ m
+LeavesNext m (Ok None) after = after ≡ m
+LeavesNext m (Err why) after = after ≡ m
 
 -- ---- finish: the results stand aside, no port changes
 -- what each answer to finish leaves
 abbrev pub LeavesFinish : State → ℕ → List ℕ → Finishing → State → Type 0
-LeavesFinish m task words F.Taken after =
+LeavesFinish m task words (Ok _) after =
     after ≡ with_words m (record { ports = m.store.ports; out = m.store.out; waiting = m.store.waiting; finished = joined m.store.finished task }) (place (task * port_room) words m.aside)
-LeavesFinish m task words (F.Refused number) after = after ≡ m
+LeavesFinish m task words (Err why) after = after ≡ m

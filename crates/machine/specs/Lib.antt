@@ -1,3 +1,4 @@
+pub mod Told
 pub mod Words
 pub mod WordLaws
 pub mod Boards

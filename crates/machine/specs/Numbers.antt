@@ -1,15 +1,12 @@
 -- Laws: no other answer exists. Start, tick, next and finish answer with document 01's numbers alone ('The machine'), and with instructions only where some were obeyed.
 use Prim.Native.Nat.{ℕ, ◌≤◌}
-use Rattle.std.specs.Prelude.{◌≡◌, Bool, ◌||◌, length, eqb}
+use Rattle.std.specs.Prelude.{◌≡◌, Bool, ◌||◌, length, eqb, Some, None, Ok, Err}
 use Rattle.std.proofs.Math.Bool.{true, false}
 use Rattle.std.proofs.Math.Option.{none, some}
 use mathlib.Core.List.{List, [], ◌∷◌}
 use Rattle.machine.specs.declared.Reaction.{Reaction}
 use Rattle.machine.specs.declared.Reaction.TheVariants as R
-use Rattle.machine.specs.declared.Turn.{Turn}
-use Rattle.machine.specs.declared.Turn.TheVariants as T
-use Rattle.machine.specs.declared.Finishing.{Finishing}
-use Rattle.machine.specs.declared.Finishing.TheVariants as F
+use Rattle.machine.specs.Told.{Turn, Finishing}
 use Rattle.machine.specs.Boards.{Board}
 use Rattle.machine.specs.Instructions.{Fault, late, wild, astray, clash}
 use Rattle.machine.specs.Calls.{Ticked}
@@ -40,14 +37,14 @@ TickAnswer b (R.Fault number) = one_of (41 ∷ 42 ∷ 43 ∷ []) number ≡ true
 
 -- next: a task, or none; 31
 abbrev pub NextAnswer : Turn → Type 0
-NextAnswer (T.Task task) = Unit {0}
-NextAnswer T.Nobody = Unit {0}
-NextAnswer (T.Refused number) = one_of (31 ∷ []) number ≡ true
+NextAnswer (Ok (Some task)) = Unit {0}
+NextAnswer (Ok None) = Unit {0}
+NextAnswer (Err why) = one_of (31 ∷ []) why.number ≡ true
 
 -- finish: taken; 31, 34, 35
 abbrev pub FinishAnswer : Finishing → Type 0
-FinishAnswer F.Taken = Unit {0}
-FinishAnswer (F.Refused number) = one_of (31 ∷ 34 ∷ 35 ∷ []) number ≡ true
+FinishAnswer (Ok _) = Unit {0}
+FinishAnswer (Err why) = one_of (31 ∷ 34 ∷ 35 ∷ []) why.number ≡ true
 
 -- the number of a fault, and the task that is late
 abbrev pub fault_means : Fault → Meaning

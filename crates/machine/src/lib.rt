@@ -12,18 +12,3 @@ pub enum Reaction {
     Late(u32),
     Fault(u8),
 }
-
-// The answer of next task.
-#[derive(Clone, Copy)]
-pub enum Turn {
-    Task(u32),
-    Nobody,
-    Refused(u8),
-}
-
-// The answer of finish.
-#[derive(Clone, Copy)]
-pub enum Finishing {
-    Taken,
-    Refused(u8),
-}

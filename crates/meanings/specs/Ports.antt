@@ -1,9 +1,10 @@
--- A port is told by one look at its name, or by one at the task's name and one at the output's.
+-- A port is told by one look at its name, and behind a dot by one at the task's outputs.
 use Rattle.std.specs.Prelude.{ℕ, ◌≡◌, List, true, false, ◌≢◌}
 use borrow.Author.Tests.{ne_eqb}
+use Rattle.std.proofs.Common.{◌∙◌}
 use Rattle.text.specs.declared.Port.{Port}
 use Rattle.refusals.specs.declared.Row.{Row}
-use Rattle.refusals.specs.Names.{module_scope, task_scope, unknown, meaning, named}
+use Rattle.refusals.specs.Names.{module_scope, task_scope, output_sort, unknown, meaning, named}
 use Rattle.refusals.specs.Ports.{output_of, port_named}
 
 module _ (s : List ℕ) (rows : List Row) (port : Port) {row : Row} (found : row ≡ meaning s rows module_scope port.first) where
@@ -19,11 +20,6 @@ module _ (s : List ℕ) (rows : List Row) (port : Port) {row : Row} (found : row
   unfolding port_named output_of named
   task-none dotted h = simp (dotted, ← found, ne_eqb row.sort 3 h)
 
-  module _ (dotted : port.dotted ≡ true) (task : row.sort ≡ 3) {output : Row} (second : output ≡ meaning s rows (task_scope row.value) port.second) where
-    pub output-found : output.sort ≡ 6 → output ≡ port_named s rows port
-    unfolding port_named output_of named
-    output-found e = simp (dotted, ← found, task, ← second, e)
-
-    pub output-none : output.sort ≢ 6 → unknown ≡ port_named s rows port
-    unfolding port_named output_of named
-    output-none h = simp (dotted, ← found, task, ← second, ne_eqb output.sort 6 h)
+  pub task-output : port.dotted ≡ true → row.sort ≡ 3 → {output : Row} → output ≡ named s rows (task_scope row.value) output_sort port.second → output ≡ port_named s rows port
+  unfolding port_named output_of named
+  task-output dotted task e = e ∙ simp (dotted, ← found, task)

@@ -24,10 +24,10 @@ pub fn row_of(name: Name, scope: usize, sort: usize, typ: usize, value: usize) -
     Row {
         start: name.start,
         end: name.end,
-        scope: scope,
-        sort: sort,
-        typ: typ,
-        value: value,
+        scope,
+        sort,
+        typ,
+        value,
     }
 }
 
@@ -44,6 +44,5 @@ pub fn port_row(
     ensures { Indexed s.now cells.now → result ≡ row_of name scope sort (type_named s.now typ) (ports_in (rows_in cells.now n)) }
 {
     let number = names::count(cells, n, Sought::Port);
-    let of = super::type_named(s, typ);
-    row_of(name, scope, sort, of, number)
+    row_of(name, scope, sort, super::type_named(s, typ), number)
 }

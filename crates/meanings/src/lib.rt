@@ -18,44 +18,41 @@ use text::{Literal, Name, Port};
 
 pub mod declaring;
 
-// The type that a name stands for.
+// The type that a name stands for, by its number in a row.
 pub fn type_named(s: &[u8], name: Name) -> usize
     ensures { result ≡ type_named s.now name }
 {
     if scan::same(s, name.start, name.end, b"int") {
-        return 0;
+        0
+    } else if scan::same(s, name.start, name.end, b"boolean") {
+        1
+    } else {
+        2
     }
-    if scan::same(s, name.start, name.end, b"boolean") {
-        return 1;
-    }
-    2
 }
 
-// The guard's function that a name stands for.
+// The guard's function that a name stands for, by its number in the table.
 pub fn function_named(s: &[u8], name: Name) -> usize
     ensures { result ≡ function_named s.now name }
 {
     if scan::same(s, name.start, name.end, b"isTrue") {
-        return 0;
+        0
+    } else if scan::same(s, name.start, name.end, b"isFalse") {
+        1
+    } else if scan::same(s, name.start, name.end, b"less") {
+        2
+    } else if scan::same(s, name.start, name.end, b"equal") {
+        3
+    } else {
+        4
     }
-    if scan::same(s, name.start, name.end, b"isFalse") {
-        return 1;
-    }
-    if scan::same(s, name.start, name.end, b"less") {
-        return 2;
-    }
-    if scan::same(s, name.start, name.end, b"equal") {
-        return 3;
-    }
-    4
 }
 
 // The number that digits stand for, or 4294967296 where it is more.
 pub fn number_of(s: &[u8], digits: Name) -> usize
     ensures { result ≡ min (number_of s.now digits) 4294967296 }
 {
-    let number = scan::value(s, digits.start, digits.end);
-    number as usize
+    scan::value(s, digits.start, digits.end) as usize
 }
 
 // What a name means in a scope where only this sort may stand.
@@ -64,9 +61,10 @@ pub fn named(s: &[u8], cells: &[usize], n: usize, scope: Scope, sort: usize, nam
 {
     let row = names::find(s, cells, n, scope, name.start, name.end);
     if row.sort == sort {
-        return row;
+        row
+    } else {
+        names::unknown()
     }
-    names::unknown()
 }
 
 // The task of a name.
@@ -81,39 +79,24 @@ pub fn output_of(s: &[u8], cells: &[usize], n: usize, task: Row, name: Name) -> 
     ensures { Indexed s.now cells.now → result ≡ output_of s.now (rows_in cells.now n) task name }
 {
     if task.sort < 7 {
-        return named(s, cells, n, Scope::OfTask(task.value), 6, name);
+        named(s, cells, n, Scope::OfTask(task.value), 6, name)
+    } else {
+        names::unknown()
     }
-    names::unknown()
 }
 
-// What is read at a port.
+// What is read at a port: a sensor, or a task's output behind a dot.
 pub fn port_named(s: &[u8], cells: &[usize], n: usize, port: Port) -> Row
     ensures { Indexed s.now cells.now → result ≡ port_named s.now (rows_in cells.now n) port }
 {
-    let first = port.first;
-    let row = names::found(s, cells, n, 0, first.start, first.end);
-    if port.dotted {
-        if row.sort != 3 {
-            return names::unknown();
-        }
-        let second = port.second;
-        let output = names::find(
-            s,
-            cells,
-            n,
-            Scope::OfTask(row.value),
-            second.start,
-            second.end,
-        );
-        if output.sort == 6 {
-            return output;
-        }
-        return names::unknown();
+    let row = names::found(s, cells, n, 0, port.first.start, port.first.end);
+    if port.dotted && row.sort == 3 {
+        named(s, cells, n, Scope::OfTask(row.value), 6, port.second)
+    } else if !port.dotted && row.sort == 1 {
+        row
+    } else {
+        names::unknown()
     }
-    if row.sort == 1 {
-        return row;
-    }
-    names::unknown()
 }
 
 // What a guard's argument without a dot is: a constant or a sensor.
@@ -121,10 +104,7 @@ pub fn plain_argument(s: &[u8], cells: &[usize], n: usize, name: Name) -> Row
     ensures { Indexed s.now cells.now → result ≡ argument_named s.now (rows_in cells.now n) (plain_port name) }
 {
     let row = names::found(s, cells, n, 0, name.start, name.end);
-    if row.sort < 2 {
-        return row;
-    }
-    names::unknown()
+    if row.sort < 2 { row } else { names::unknown() }
 }
 
 // What a guard's argument is: a constant, or what is read at a port.
@@ -132,10 +112,10 @@ pub fn argument_named(s: &[u8], cells: &[usize], n: usize, port: Port) -> Row
     ensures { Indexed s.now cells.now → result ≡ argument_named s.now (rows_in cells.now n) port }
 {
     if port.dotted {
-        return port_named(s, cells, n, port);
+        port_named(s, cells, n, port)
+    } else {
+        plain_argument(s, cells, n, port.first)
     }
-    let first = port.first;
-    plain_argument(s, cells, n, first)
 }
 
 // The type of a value as it is written.
@@ -143,16 +123,9 @@ pub fn literal_type(s: &[u8], cells: &[usize], n: usize, literal: Literal) -> us
     ensures { Indexed s.now cells.now → result ≡ literal_type s.now (rows_in cells.now n) literal }
 {
     match literal {
-        Literal::Truth { at: _, yes: _ } => 1,
-        Literal::Number {
-            at: _,
-            digits: _,
-            minus: _,
-        } => 0,
-        Literal::Named(name) => {
-            let constant = named(s, cells, n, Scope::Numbered(0), 0, name);
-            constant.typ
-        }
+        Literal::Truth { .. } => 1,
+        Literal::Number { .. } => 0,
+        Literal::Named(name) => named(s, cells, n, Scope::Numbered(0), 0, name).typ,
     }
 }
 
@@ -160,16 +133,11 @@ pub fn literal_type(s: &[u8], cells: &[usize], n: usize, literal: Literal) -> us
 fn int_word(number: usize, minus: bool) -> usize
     ensures { result ≡ int_word number minus }
 {
-    if minus {
-        if number == 0 {
-            return 0;
-        }
-        if number < 4294967296 {
-            return 4294967296 - number;
-        }
-        return 0;
+    if minus && 0 < number {
+        4294967296usize.saturating_sub(number)
+    } else {
+        number
     }
-    number
 }
 
 // The word of a value as it is written, or 4294967296 where it is more.
@@ -177,27 +145,11 @@ pub fn literal_word(s: &[u8], cells: &[usize], n: usize, literal: Literal) -> us
     ensures { Indexed s.now cells.now → result ≡ min (literal_word s.now (rows_in cells.now n) literal) 4294967296 }
 {
     match literal {
-        Literal::Truth { at: _, yes } => {
-            if yes {
-                return 1;
-            }
-            0
-        }
-        Literal::Number {
-            at: _,
-            digits,
-            minus,
-        } => {
-            let number = number_of(s, digits);
-            int_word(number, minus)
-        }
+        Literal::Truth { yes, .. } => usize::from(yes),
+        Literal::Number { digits, minus, .. } => int_word(number_of(s, digits), minus),
         Literal::Named(name) => {
             let constant = named(s, cells, n, Scope::Numbered(0), 0, name);
-            let word = constant.value;
-            if word < 4294967296 {
-                return word;
-            }
-            4294967296
+            constant.value.min(4294967296)
         }
     }
 }

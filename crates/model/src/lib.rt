@@ -17,7 +17,7 @@ pub enum Operand {
     Fixed(Value),
 }
 
-#[derive(Clone, Copy)]
+#[derive(Clone, Copy, PartialEq, Eq)]
 pub enum Function {
     IsTrue,
     IsFalse,

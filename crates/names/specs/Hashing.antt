@@ -1,18 +1,12 @@
 -- The key of a name, from the letters where it stands in the text, and what it tells.
-use Rattle.std.specs.Prelude.{◌≡◌, ℕ, ◌+◌, ◌-◌, ◌*◌, ◌/◌, ◌%◌, ◌^◌, ◌<◌, ◌≤◌, min, Bool, true, false, List, length, take, ◌==◌, nat_lt, slice_index, slice_index_or}
-use Rattle.std.proofs.Common.{arith, add-zero, sym, ◌∙◌, get_or-drop, get_or-take, ext_get_or}
+use Rattle.std.specs.Prelude.{◌≡◌, ℕ, ◌+◌, ◌-◌, ◌*◌, ◌/◌, ◌%◌, ◌^◌, ◌<◌, ◌≤◌, Bool, true, false, List, length, ◌==◌, nat_lt, slice_index, slice_index_or}
+use Rattle.std.proofs.Common.{arith, sym, ◌∙◌, ext_get_or}
 use Rattle.std.proofs.Math.Path.{refl}
 use borrow.Author.Tests.{ltb-true, ltb-false, lt-ltb, le-ltb, eqb-true, eqb-false}
 use Rattle.std.proofs.Math.ListN.{get_or-eq_default}
-use Rattle.std.proofs.Math.Seq.{slice}
 use Rattle.model.specs.Bytes.{same}
-use Rattle.scan.specs.Slices.{slice-length}
-use Rattle.names.specs.Parts.{part-back, same-own}
+use Rattle.names.specs.Parts.{same-own}
 use Rattle.names.specs.Index.{Letters, quad, pair, key_of, mixed, chain_of}
-
-letter_at : (s : List ℕ) (start end i place : ℕ) → start + i ≡ place → place < end → slice_index (slice start end s) i ≡ slice_index s place
-letter_at s start end i place e h =
-    get_or-drop start (take end s) i 0 ∙ rw e (get_or-take end s place 0 h)
 
 pub chain-small : (scope : ℕ) (word : List ℕ) → chain_of scope word < 512
 unfolding chain_of
@@ -39,48 +33,26 @@ pub chain_same : (scope : ℕ) (word other : List ℕ) → key_of word ≡ key_o
 unfolding chain_of
 chain_same scope word other e = rw e
 
-quad_at : (s : List ℕ) (start end i place : ℕ) → start + i ≡ place → place + 4 ≤ end → quad (slice start end s) i ≡ quad s place
-quad_at s start end i place e h =
-    rw (letter_at s start end i place e (omega arith), letter_at s start end (i + 1) (place + 1) (omega arith) (omega arith), letter_at s start end (i + 2) (place + 2) (omega arith) (omega arith), letter_at s start end (i + 3) (place + 3) (omega arith) (omega arith))
+-- ---- the key of a word, by how many letters it has
 
--- ---- the key of the word of n letters from start on
-
-pub key-none : (word : List ℕ) → length word ≡ 0 → 0 ≡ key_of word
-unfolding key_of
-key-none word e =
-    let z : (i : ℕ) → slice_index word i ≡ 0 = λ i. get_or-eq_default word 0 (omega arith) in
-    rw (lt-ltb (length word) 4 (omega arith), z 0, z (length word / 2), z (length word - 1))
-
-module _ (s : List ℕ) (start n : ℕ) (h : start + n ≤ length s) where
-  abbrev word : List ℕ
-  word = slice start (start + n) s
-
-  long : length word ≡ n
-  long = omega (arith, slice-length start (start + n) s)
-
-  pub key-three : 0 < n → n < 4 → slice_index s start + slice_index s (start + n / 2) * 256 + slice_index s (start + n - 1) * 65536 ≡ key_of word
+module _ (word : List ℕ) where
+  pub key-none : length word ≡ 0 → 0 ≡ key_of word
   unfolding key_of
-  key-three g l =
-      let first = letter_at s start (start + n) 0 start (add-zero start) (omega arith) in
-      let middle = letter_at s start (start + n) (n / 2) (start + n / 2) refl (omega arith) in
-      let last = letter_at s start (start + n) (n - 1) (start + n - 1) (omega arith) (omega arith) in
-      rw (long, lt-ltb n 4 l, first, middle, last)
+  key-none e =
+      let z : (i : ℕ) → slice_index word i ≡ 0 = λ i. get_or-eq_default word 0 (omega arith) in
+      rw (lt-ltb (length word) 4 (omega arith), z 0, z (length word / 2), z (length word - 1))
 
-  pub key-eight : 4 ≤ n → n ≤ 8 → pair s start (start + n - 4) ≡ key_of word
+  pub key-three : length word < 4 → slice_index word 0 + slice_index word (length word / 2) * 256 + slice_index word (length word - 1) * 65536 ≡ key_of word
   unfolding key_of
-  key-eight g l =
-      let first = quad_at s start (start + n) 0 start (add-zero start) (omega arith) in
-      let last = quad_at s start (start + n) (n - 4) (start + n - 4) (omega arith) (omega arith) in
-      rw (long, le-ltb n 4 g, le-ltb 8 n l, first, last)
+  key-three l = rw (lt-ltb (length word) 4 l)
 
-  pub key_more : 8 < n → pair s start (start + n - 4) / 2 + pair s (start + (n - 8) / 2) (start + (n - 8) / 2 + 4) / 2 ≡ key_of word
+  pub key-eight : 4 ≤ length word → length word ≤ 8 → pair word 0 (length word - 4) ≡ key_of word
   unfolding key_of
-  key_more g =
-      let first = quad_at s start (start + n) 0 start (add-zero start) (omega arith) in
-      let last = quad_at s start (start + n) (n - 4) (start + n - 4) (omega arith) (omega arith) in
-      let before = quad_at s start (start + n) ((n - 8) / 2) (start + (n - 8) / 2) refl (omega arith) in
-      let behind = quad_at s start (start + n) ((n - 8) / 2 + 4) (start + (n - 8) / 2 + 4) (omega arith) (omega arith) in
-      rw (long, le-ltb n 4 (omega arith), lt-ltb 8 n g, first, last, before, behind)
+  key-eight g l = rw (le-ltb (length word) 4 g, le-ltb 8 (length word) l)
+
+  pub key_more : 8 < length word → pair word 0 (length word - 4) / 2 + pair word ((length word - 8) / 2) ((length word - 8) / 2 + 4) / 2 ≡ key_of word
+  unfolding key_of
+  key_more g = rw (le-ltb (length word) 4 (omega arith), lt-ltb 8 (length word) g)
 
 -- ---- a word of at most eight letters is told by its length and its key
 
@@ -147,23 +119,6 @@ module _ (a b : List ℕ) (l : Letters a) (m : Letters b) where
         by j g true z = threes (ltb-true n 4 z) j g
         by j g false z = eights (ltb-false n 4 z) h j g
 
-pub slice-letters : (s : List ℕ) (start end : ℕ) → Letters s → Letters (slice start end s)
-slice-letters s start end l = record { bytes = λ i. by i (nat_lt (start + i) end) refl }
-  where
-    by : (i : ℕ) (u : Bool) → nat_lt (start + i) end ≡ u → slice_index (slice start end s) i < 256
-    by i true z = rw (letter_at s start end i (start + i) refl (ltb-true (start + i) end z)) (l.bytes (start + i))
-    by i false z =
-        let none : slice_index_or (slice start end s) i 0 ≡ 0 = get_or-eq_default (slice start end s) 0 (omega (arith, slice-length start end s, ltb-false (start + i) end z)) in
-        omega (arith, none)
-
--- ---- whether a row has a name of n letters, by where the row's name stops
-
-module _ (s : List ℕ) (from to stop start n : ℕ) (e : stop ≡ min to (length s)) (h : n ≤ stop) (g : stop - n ≡ from) (i : start + n ≤ length s) where
-  pub named-short : Letters s → n ≤ 8 → key_of (slice from to s) ≡ key_of (slice start (start + n) s) → same (slice from to s) (slice start (start + n) s) ≡ true
-  named-short l m k =
-      let own : length (slice from to s) ≡ n = omega (arith, slice-length from to s) in
-      let is = key-tells (slice from to s) (slice start (start + n) s) (slice-letters s from to l) (slice-letters s start (start + n) l) n own (long s start n i) k m in
-      rw is (same-own (slice start (start + n) s))
-
-  pub named-long : same (slice (stop - n) (stop - n + n) s) (slice start (start + n) s) ≡ true → same (slice from to s) (slice start (start + n) s) ≡ true
-  named-long k = rw (part-back s from to stop n e h g) (rw g at k)
+-- names of the same length and key are the same, where it is at most eight
+pub named-short : (a b : List ℕ) → Letters a → Letters b → length a ≡ length b → length b ≤ 8 → key_of a ≡ key_of b → same a b ≡ true
+named-short a b l m e h k = rw (key-tells a b l m (length b) e refl k h) (same-own b)

@@ -1,5 +1,5 @@
 -- The table of declared names as an array of numbers: its index, and behind that eight numbers to a row, one row behind the other.
-use Rattle.std.specs.Prelude.{ℕ, zero, suc, ◌+◌, ◌-◌, ◌*◌, ◌/◌, Bool, true, List, [], ◌∷◌, length, nat_lt, slice_index}
+use Rattle.std.specs.Prelude.{◌≡◌, ℕ, zero, suc, ◌+◌, ◌-◌, ◌*◌, ◌/◌, ◌≤◌, Bool, Option, Some, None, List, [], ◌∷◌, length, nat_lt, slice_index}
 use Rattle.refusals.specs.declared.Row.{Row}
 use Rattle.refusals.specs.Names.{task_scope, is_sort, is_port, is_port_of}
 use Rattle.names.specs.declared.Scope.{Scope}
@@ -41,10 +41,10 @@ abbrev pub scope_of : Scope → ℕ
 scope_of (Numbered number) = number
 scope_of (OfTask task) = task_scope task
 
--- whether that is a number that a row can have
-abbrev pub fitting : Scope → Bool
-fitting (Numbered number) = true
-fitting (OfTask task) = nat_lt task 18446744073709551615
+-- a scope's number where it fits; no row has a greater one
+abbrev pub NumberOf : Scope → Option ℕ → Type 0
+NumberOf scope (Some number) = number ≡ scope_of scope
+NumberOf scope None = 18446744073709551616 ≤ scope_of scope
 
 -- which rows are counted
 abbrev pub is_of : Sought → Row → Bool

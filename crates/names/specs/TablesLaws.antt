@@ -1,9 +1,8 @@
 -- Laws of the table, row by row.
-use Rattle.std.specs.Prelude.{◌≡◌, ℕ, zero, suc, ◌+◌, ◌-◌, ◌*◌, ◌<◌, ◌≤◌, Bool, true, false, List, [], ◌∷◌, ◌++◌, length, take, ◌==◌, ◌≢◌, nat_lt, slice_index, slice_index_or, refl}
-use Rattle.std.proofs.Common.{sym, ◌∙◌, add-zero, zero-add, add-one, ltb-true, ltb-false, eqb-true, eq-eqb, ne_eqb, take_all}
+use Rattle.std.specs.Prelude.{◌≡◌, ℕ, zero, suc, ◌+◌, ◌-◌, ◌*◌, ◌<◌, ◌≤◌, Bool, true, false, List, [], ◌∷◌, ◌++◌, length, ◌≢◌, nat_lt, slice_index, slice_index_or, refl}
+use Rattle.std.proofs.Common.{sym, ◌∙◌, add-zero, zero-add, add-one, ltb-true, ltb-false}
 use Rattle.std.proofs.Math.Path.{ap}
 use native.Mathlib.Omega.{arith}
-use Rattle.std.proofs.lemmas.Bool.{eqb-false}
 use Rattle.std.proofs.Math.ListN.{get_or-eq_default}
 use Rattle.refusals.specs.declared.Row.{Row}
 use Rattle.refusals.specs.Names.{unknown, is_row, find, no_type, count, types}
@@ -94,18 +93,6 @@ type-skip test cells n i (suc from) h = type-skip test cells n i from (λ k g l.
     by true e = let l = ltb-true from n e in type-on test cells from n l (h from l (omega arith)) i ∙ rw (add-one from)
     by false e = let l = ltb-false from n e in type-end test cells from n l i ∙ sym (type-end test cells (suc from) n (omega arith) i)
 
--- ---- the scope of a task's ports
-
-pub scope-none : (number task : ℕ) → number ≡ 0 → false ≡ (number == task + 1)
-scope-none number task z = sym (ne_eqb number (task + 1) (λ q. omega (arith, q)))
-
-pub scope-less : (number task : ℕ) → (number ≢ 0) → (number - 1 == task) ≡ (number == task + 1)
-scope-less number task z = by (number - 1 == task) refl
-  where
-    by : (b : Bool) → (number - 1 == task) ≡ b → b ≡ (number == task + 1)
-    by true e = let p = eqb-true (number - 1) task e in sym (eq-eqb number (task + 1) (omega arith))
-    by false e = let p = eqb-false (number - 1) task e in sym (ne_eqb number (task + 1) (λ q. p (omega (arith, q))))
-
 -- ---- the rows as a whole
 
 rows_snoc : (m : ℕ) (cells : List ℕ) (k : ℕ) → rows_from (suc m) cells k ≡ rows_from m cells k ++ (row_at cells (k + m) ∷ [])
@@ -123,7 +110,3 @@ pub length-rows : (m : ℕ) (cells : List ℕ) (k : ℕ) → length (rows_from m
 unfolding rows_from
 length-rows zero cells k = refl
 length-rows (suc m) cells k = ap suc (length-rows m cells (k + 1))
-
--- rows counted over the whole of an array are those of the array
-pub counted-whole : (of : Row → Bool) (cells : List ℕ) (n : ℕ) {r : ℕ} → r ≡ count of (rows_in (take (length cells - 0) cells) n) → r ≡ count of (rows_in cells n)
-counted-whole of cells n e = e ∙ ap (λ (l : List ℕ). count of (rows_in l n)) (take_all (length cells - 0) cells (omega arith))

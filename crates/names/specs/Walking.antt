@@ -1,5 +1,5 @@
 -- A name is found by going through the rows of its chain, from the first on.
-use Rattle.std.specs.Prelude.{◌≡◌, ℕ, zero, suc, ◌+◌, ◌-◌, ◌*◌, ◌%◌, ◌^◌, ◌<◌, ◌≤◌, Bool, true, false, cond, List, [], ◌∷◌, ◌++◌, ◌==◌, ◌≢◌, nat_eq, nat_lt, slice_index}
+use Rattle.std.specs.Prelude.{◌≡◌, ℕ, zero, suc, ◌+◌, ◌-◌, ◌*◌, ◌<◌, ◌≤◌, Bool, true, false, cond, Option, Some, None, List, [], ◌∷◌, ◌++◌, ◌==◌, ◌≢◌, nat_eq, nat_lt, slice_index}
 use Rattle.std.proofs.Common.{arith, sym, ◌∙◌, eqb-true, eq-eqb, ne_eqb, ltb-true, ltb-false}
 use Rattle.std.proofs.Math.Path.{refl, ap}
 use Rattle.std.proofs.lemmas.Bool.{eqb-false}
@@ -7,9 +7,9 @@ use Rattle.model.specs.Bytes.{same}
 use Rattle.text.proofs.WordsLaws.{same→eq}
 use Rattle.refusals.specs.declared.Row.{Row}
 use Rattle.refusals.specs.Names.{unknown, is_row, find}
-use Rattle.names.specs.declared.Scope.{Scope}
-use Rattle.names.specs.declared.Scope.TheVariants.{Numbered, OfTask}
-use Rattle.names.specs.Tables.{row_at, rows_from, rows_in, scope_of, fitting}
+use Rattle.names.specs.declared.Lookup.{Lookup}
+use Rattle.names.specs.declared.Lookup.TheVariants.{At, Nowhere, Untold}
+use Rattle.names.specs.Tables.{row_at, rows_from, rows_in, room_in}
 use Rattle.names.specs.TablesLaws.{rows_last}
 use Rattle.names.specs.Chains.{next_of, lowest, next-some, next-out, lowest-hit, lowest-miss, lowest-none, lowest-same, lowest-holds, lowest-empty, lowest-first}
 use Rattle.names.specs.Index.{key_of, chain_of, key_by, word_at, chain_at, indexed, head_in, link_at, key_at, marked_by, Indexed}
@@ -211,22 +211,13 @@ module _ (s : List ℕ) (scope : ℕ) (word : List ℕ) where
       pub walk-passes : (n : ℕ) → n < link → 0 ≡ marked_first cells n
       walk-passes n g = sym (lowest-empty (marked cells) n 0 (λ j i. w.none j (omega arith)))
 
--- a number that no row can have
-beyond : (scope : Scope) → fitting scope ≡ false → 18446744073709551616 ≤ scope_of scope
-beyond (Numbered number) e = let q : ◌≡◌ {A = ℕ} 0 1 = cc in absurd (omega arith)
-beyond (OfTask task) e = omega (arith, ltb-false task 18446744073709551615 e)
+-- one more than the place of a row that was found; 0 where none was
+abbrev pub past : Option ℕ → ℕ
+past (Some k) = k + 1
+past None = 0
 
-pub task-number : (task number : ℕ) → number ≡ (task + 1) % 2 ^ 64 → fitting (OfTask task) ≡ true → number ≡ scope_of (OfTask task)
-task-number task number e h = omega (arith, e, ltb-true task 18446744073709551615 h)
-
--- the rows that may be of a scope, and its number where it fits, tell what a name means in it
-pub scope-told : (s word cells : List ℕ) (n rows number : ℕ) (scope : Scope) → ((i : ℕ) → slice_index cells i < 18446744073709551616) → rows ≡ cond (fitting scope) n 0 → (fitting scope ≡ true → number ≡ scope_of scope) → find s (rows_in cells rows) number word ≡ find s (rows_in cells n) (scope_of scope) word
-unfolding find rows_from
-scope-told s word cells n rows number scope fit among is = by (fitting scope) refl
-  where
-    empty : find s (rows_in cells 0) number word ≡ unknown
-    empty = refl
-
-    by : (b : Bool) → fitting scope ≡ b → find s (rows_in cells rows) number word ≡ find s (rows_in cells n) (scope_of scope) word
-    by true p = let all : rows ≡ n = among ∙ rw p in rw (all, is p)
-    by false p = let none : rows ≡ 0 = among ∙ rw p in rw none (empty ∙ scope-beyond s (scope_of scope) word cells n fit (beyond scope p))
+-- where the index finds a name of a scope among the first n rows
+abbrev pub Placed : List ℕ → List ℕ → ℕ → ℕ → List ℕ → Lookup → Type 0
+Placed s cells n scope word (At k) = (k < room_in cells) × (Indexed s cells → k + 1 ≡ named_first s scope word cells n)
+Placed s cells n scope word Nowhere = Indexed s cells → 0 ≡ named_first s scope word cells n
+Placed s cells n scope word Untold = Unit {0}

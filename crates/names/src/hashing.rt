@@ -1,71 +1,58 @@
 // The key of a name, from its letters, and its chain, from its key and its scope.
-ghost use Rattle.std.specs.Prelude.{◌≡◌, ◌+◌, ◌-◌, ◌*◌, ◌/◌, ◌%◌, ◌<◌, ◌≤◌, length, slice_index};
-ghost use Rattle.std.proofs.Math.Seq.{slice};
-ghost use Rattle.names.specs.Index.{quad, key_of, mixed};
-
-fn wide(letter: u8) -> usize
-    ensures { (result ≡ letter) × (result < 256) }
-{
-    letter as usize
-}
+ghost use Rattle.std.specs.Prelude.{◌≡◌, ◌+◌, ◌-◌, ◌*◌, ◌/◌, ◌<◌, ◌≤◌, length, slice_index};
+ghost use Rattle.names.specs.Index.{quad, pair, key_of, mixed};
 
 // Four letters from a place on, as one number.
-fn four(s: &[u8], i: usize) -> usize
-    requires { i + 4 ≤ length s.now }
-    ensures { (result ≡ quad s.now i) × (result < 4294967296) }
+fn four(word: &[u8], i: usize) -> usize
+    requires { i + 4 ≤ length word.now }
+    ensures { (result ≡ quad word.now i) × (result < 4294967296) }
 {
-    wide(s[i]) + wide(s[i + 1]) * 256 + wide(s[i + 2]) * 65536 + wide(s[i + 3]) * 16777216
+    word[i] as usize
+        + word[i + 1] as usize * 256
+        + word[i + 2] as usize * 65536
+        + word[i + 3] as usize * 16777216
 }
 
-// The first, the middle and the last of n letters from start on, as one number.
-fn three(s: &[u8], start: usize, n: usize) -> usize
-    requires { (0 < n) × (start + n ≤ length s.now) }
-    ensures { result ≡ slice_index s.now start + slice_index s.now (start + n / 2) * 256 + slice_index s.now (start + n - 1) * 65536 }
+// The first, the middle and the last letter, as one number.
+fn three(word: &[u8]) -> usize
+    requires { 0 < length word.now }
+    ensures { result ≡ slice_index word.now 0 + slice_index word.now (length word.now / 2) * 256 + slice_index word.now (length word.now - 1) * 65536 }
 {
-    wide(s[start]) + wide(s[start + n / 2]) * 256 + wide(s[start + n - 1]) * 65536
+    let n = word.len();
+    word[0] as usize + word[n / 2] as usize * 256 + word[n - 1] as usize * 65536
 }
 
 // Eight letters, four from each of two places on, as one number.
-fn eight(s: &[u8], i: usize, j: usize) -> usize
-    requires { (i + 4 ≤ length s.now) × (j + 4 ≤ length s.now) }
-    ensures { result ≡ quad s.now i + quad s.now j * 4294967296 }
+fn eight(word: &[u8], i: usize, j: usize) -> usize
+    requires { (i + 4 ≤ length word.now) × (j + 4 ≤ length word.now) }
+    ensures { result ≡ pair word.now i j }
 {
-    four(s, i) + four(s, j) * 4294967296
+    four(word, i) + four(word, j) * 4294967296
 }
 
-// The key of the name of n letters from start on.
-pub(crate) fn key_of(s: &[u8], start: usize, n: usize) -> usize
-    requires { (0 < n) × (start + n ≤ length s.now) }
-    ensures { result ≡ key_of (slice start (start + n) s.now) }
+// The key of a name.
+pub(crate) fn key_of(word: &[u8]) -> usize
+    ensures { result ≡ key_of word.now }
 {
-    if n < 4 {
-        return three(s, start, n);
-    }
-    let ends = eight(s, start, start + n - 4);
-    if n <= 8 {
-        return ends;
-    }
-    let middle = start + (n - 8) / 2;
-    let inner = eight(s, middle, middle + 4);
-    ends / 2 + inner / 2
-}
-
-// The key of the name that stands from start up to end.
-pub fn key_in(s: &[u8], start: usize, end: usize) -> usize
-    ensures { result ≡ key_of (slice start end s.now) }
-{
-    let n = super::size(s, start, end);
+    let n = word.len();
     if n == 0 {
         return 0;
     }
-    key_of(s, start, n)
+    if n < 4 {
+        return three(word);
+    }
+    let ends = eight(word, 0, n - 4);
+    if n <= 8 {
+        return ends;
+    }
+    let middle = (n - 8) / 2;
+    ends / 2 + eight(word, middle, middle + 4) / 2
 }
 
 // The chain in a scope of the names with a key.
-pub fn chain_of(scope: usize, key: usize) -> usize
+pub(crate) fn chain_of(scope: usize, key: usize) -> usize
     ensures { (result ≡ mixed scope key) × (result < 512) }
 {
-    let sum = std::num::wrapping_add_usize(key / 4294967296, key);
-    let all = std::num::wrapping_add_usize(sum, scope);
+    let all = (key / 4294967296).wrapping_add(key).wrapping_add(scope);
     all % 4294967296 * 2654435769 / 8388608 % 512
 }

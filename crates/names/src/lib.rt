@@ -3,13 +3,13 @@
 // Builds on the laws of parts of a text, and on what a row is in the rules.
 #![tactic(auto)]
 
-ghost use Rattle.std.specs.Prelude.{◌≡◌, ℕ, ◌+◌, ◌<◌, ◌≤◌, min, true, List, length, if◌then◌else◌, ◌==◌, slice_index, slice_index_or};
+ghost use Rattle.std.specs.Prelude.{◌≡◌, ℕ, ◌+◌, ◌<◌, ◌≤◌, true, List, length, IfSome, slice_index, slice_index_or};
 ghost use Rattle.std.proofs.Math.Seq.{slice};
 ghost use Rattle.model.specs.Bytes.{same};
 ghost use Rattle.refusals.specs.Names.{unknown as unknown_row, is_row, find as find_row, no_type, count as count_of, types};
-ghost use Rattle.names.specs.Tables.{row_at, rows_in, room_in, scope_of, fitting, is_of};
+ghost use Rattle.names.specs.Tables.{row_at, rows_in, room_in, scope_of, NumberOf, is_of};
 ghost use Rattle.names.specs.Index.{key_of, word_at, chain_of, indexed, head_in, marked_by, Indexed, Declared};
-ghost use Rattle.names.specs.Walking.{marked_first, named_first};
+ghost use Rattle.names.specs.Walking.{past, marked_first, Placed};
 
 use refusals::Row;
 
@@ -24,7 +24,19 @@ pub enum Scope {
     OfTask(usize),
 }
 
-// Which rows are counted: those of a sort; the ports; those of a sort among the ports of a scope.
+impl Scope {
+    // The number of a scope, where it is one that a row can have.
+    fn number(self) -> Option<usize>
+        ensures { NumberOf self result }
+    {
+        match self {
+            Scope::Numbered(number) => Some(number),
+            Scope::OfTask(task) => task.checked_add(1),
+        }
+    }
+}
+
+// Which rows are counted: those of a sort; the ports; those of a sort among the ports of a scope. A sort is a number, as in the rows of refusals.
 #[derive(Clone, Copy)]
 pub enum Sought {
     Sort(usize),
@@ -32,11 +44,34 @@ pub enum Sought {
     PortOf { scope: Scope, sort: usize },
 }
 
+impl Sought {
+    // Whether a row is one of those that are counted.
+    fn has(self, row: Row) -> bool
+        ensures { result ≡ is_of self row }
+    {
+        match self {
+            Sought::Sort(sort) => row.sort == sort,
+            Sought::Port => matches!(row.sort, 1 | 2 | 5 | 6),
+            Sought::PortOf { scope, sort } => {
+                scope.number() == Some(row.scope) && row.sort == sort
+            }
+        }
+    }
+}
+
+// Where the index finds a name: at a row, nowhere, or it does not tell.
+#[derive(Clone, Copy)]
+enum Lookup {
+    At(usize),
+    Nowhere,
+    Untold,
+}
+
 // The number at a place of the array, 0 behind its end.
 fn cell(cells: &[usize], i: usize) -> usize
     ensures { result ≡ slice_index cells.now i }
 {
-    if i < cells.len() { cells[i] } else { 0 }
+    cells.get(i).copied().unwrap_or(0)
 }
 
 // The row at a place where the array may end within it, or before it.
@@ -54,19 +89,13 @@ fn ragged(cells: &[usize], k: usize) -> Row
         };
     }
     let first = k * 8 + 1280;
-    let start = cell(cells, first);
-    let end = cell(cells, first + 1);
-    let scope = cell(cells, first + 2);
-    let sort = cell(cells, first + 3);
-    let typ = cell(cells, first + 4);
-    let value = cell(cells, first + 5);
     Row {
-        start: start,
-        end: end,
-        scope: scope,
-        sort: sort,
-        typ: typ,
-        value: value,
+        start: cell(cells, first),
+        end: cell(cells, first + 1),
+        scope: cell(cells, first + 2),
+        sort: cell(cells, first + 3),
+        typ: cell(cells, first + 4),
+        value: cell(cells, first + 5),
     }
 }
 
@@ -74,10 +103,7 @@ fn ragged(cells: &[usize], k: usize) -> Row
 fn room(cells: &[usize]) -> usize
     ensures { result ≡ room_in cells.now }
 {
-    if cells.len() < 1280 {
-        return 0;
-    }
-    (cells.len() - 1280) / 8
+    cells.len().saturating_sub(1280) / 8
 }
 
 // The row at a place where the array does not end within it.
@@ -101,12 +127,13 @@ pub fn row(cells: &[usize], k: usize) -> Row
     ensures { result ≡ row_at cells.now k }
 {
     if k < room(cells) {
-        return whole(cells, k);
+        whole(cells, k)
+    } else {
+        ragged(cells, k)
     }
-    ragged(cells, k)
 }
 
-// The row of a name that means nothing.
+// The row of a name that means nothing: the definitions (`unknown`) have such a row in place of none.
 pub fn unknown() -> Row
     ensures { result ≡ unknown_row }
 {
@@ -120,92 +147,29 @@ pub fn unknown() -> Row
     }
 }
 
-fn least(a: usize, b: usize) -> usize
-    ensures { result ≡ min a b }
-{
-    if a < b {
-        return a;
-    }
-    b
-}
-
-// How many letters stand from start up to end.
-fn size(s: &[u8], start: usize, end: usize) -> usize
-    ensures { result ≡ length (slice start end s.now) }
-{
-    let stop = least(end, s.len());
-    if start < stop {
-        return stop - start;
-    }
-    0
-}
-
-// Whether n letters from one place on are those from another place on.
-fn same_letters(s: &[u8], start: usize, from: usize, n: usize) -> bool
-    requires { (start + n ≤ length s.now) × (from + n ≤ length s.now) }
-    ensures { result ≡ same (slice start (start + n) s.now) (slice from (from + n) s.now) }
-{
-    let mut j = 0;
-    while j < n {
-        if s[start + j] != s[from + j] {
-            return false;
-        }
-        j += 1;
-    }
-    true
-}
-
 // Whether two parts of the text are byte for byte the same.
 pub fn same_parts(s: &[u8], start: usize, end: usize, from: usize, to: usize) -> bool
     ensures { result ≡ same (slice start end s.now) (slice from to s.now) }
 {
-    let n = size(s, start, end);
-    let other = size(s, from, to);
-    if n != other {
-        return false;
-    }
-    if n == 0 {
-        return true;
-    }
-    same_letters(s, start, from, n)
+    scan::same(s, start, end, scan::part(s, from, to))
 }
 
-// Whether a number is that of a scope.
-fn is_in(number: usize, scope: Scope) -> bool
-    ensures { result ≡ (number == scope_of scope) }
+// Whether a row is of this scope and has this name.
+fn is_row(s: &[u8], row: Row, scope: usize, word: &[u8]) -> bool
+    ensures { result ≡ is_row s.now scope word.now row }
 {
-    match scope {
-        Scope::Numbered(other) => number == other,
-        Scope::OfTask(task) => {
-            if number == 0 {
-                return false;
-            }
-            number - 1 == task
-        }
-    }
+    row.scope == scope && scan::same(s, row.start, row.end, word)
 }
 
-// Whether a row is of this scope and has the name that stands from start up to end.
-fn is_row(s: &[u8], row: Row, scope: usize, start: usize, end: usize) -> bool
-    ensures { result ≡ is_row s.now scope (slice start end s.now) row }
+// What a name means, where all rows are gone through.
+fn searched(s: &[u8], cells: &[usize], n: usize, scope: usize, word: &[u8]) -> Row
+    ensures { result ≡ find_row s.now (rows_in cells.now n) scope word.now }
 {
-    if row.scope == scope {
-        return same_parts(s, row.start, row.end, start, end);
-    }
-    false
-}
-
-// What the name means, where all rows are gone through.
-fn searched(s: &[u8], cells: &[usize], n: usize, scope: usize, start: usize, end: usize) -> Row
-    ensures { result ≡ find_row s.now (rows_in cells.now n) scope (slice start end s.now) }
-{
-    let mut k = 0;
-    while k < n {
+    for k in 0..n {
         let this = row(cells, k);
-        if is_row(s, this, scope, start, end) {
+        if is_row(s, this, scope, word) {
             return this;
         }
-        k += 1;
     }
     unknown()
 }
@@ -216,153 +180,78 @@ fn is_marked(cells: &[usize], k: usize, scope: usize, key: usize) -> bool
     ensures { result ≡ marked_by cells.now k scope key }
 {
     let first = k * 8 + 1280;
-    if cells[first + 7] == key {
-        return cells[first + 2] == scope;
-    }
-    false
+    cells[first + 7] == key && cells[first + 2] == scope
 }
 
-// The first row of its chain, from head on and among the first n, that is of this scope and has this key, one more than its place; 0 where there is none.
-fn chained(cells: &[usize], n: usize, scope: usize, key: usize, head: usize) -> usize
+// The place of the first row of its chain, from head on and among the first n, that is of this scope and has this key.
+fn chained(cells: &[usize], n: usize, scope: usize, key: usize, head: usize) -> Option<usize>
     requires { (4672 ≤ length cells.now) × (n ≤ 424) × (0 < head) }
-    ensures { (result ≤ 424) × ((s : List ℕ) (word : List ℕ) → Indexed s cells.now → n ≤ indexed cells.now → key ≡ key_of word → head ≡ head_in cells.now (chain_of scope word) → result ≡ marked_first s scope word cells.now n) }
+    ensures within { IfSome result (λ k. k < n) }
+    ensures first { (s : List ℕ) (word : List ℕ) → Indexed s cells.now → n ≤ indexed cells.now → key ≡ key_of word → head ≡ head_in cells.now (chain_of scope word) → past result ≡ marked_first s scope word cells.now n }
 {
     let mut link = head;
     while link <= n {
-        if is_marked(cells, link - 1, scope, key) {
-            return link;
+        let k = link - 1;
+        if is_marked(cells, k, scope, key) {
+            return Some(k);
         }
-        let next = cells[(link - 1) * 8 + 1280 + 6];
+        let next = cells[k * 8 + 1280 + 6];
         if next <= link {
-            return 0;
+            return None;
         }
         link = next;
     }
-    0
+    None
 }
 
-// Whether the row at a place has the name of n letters from start on, where their keys are equal.
-fn is_named(s: &[u8], cells: &[usize], k: usize, start: usize, n: usize) -> bool
-    requires { (k < room_in cells.now) × (0 < n) × (start + n ≤ length s.now) }
-    ensures { result ≡ true → key_of (word_at s.now cells.now k) ≡ key_of (slice start (start + n) s.now) → same (word_at s.now cells.now k) (slice start (start + n) s.now) ≡ true }
+// Whether the row at a place has this name, where their keys are equal: with at most eight letters their length tells.
+fn is_named(s: &[u8], cells: &[usize], k: usize, word: &[u8]) -> bool
+    requires { k < room_in cells.now }
+    ensures { result ≡ true → key_of (word_at s.now cells.now k) ≡ key_of word.now → same (word_at s.now cells.now k) word.now ≡ true }
 {
-    let stop = least(cells[k * 8 + 1280 + 1], s.len());
-    if stop < n {
-        return false;
-    }
-    if stop - n != cells[k * 8 + 1280] {
-        return false;
-    }
-    if n <= 8 {
-        return true;
-    }
-    same_letters(s, stop - n, start, n)
+    let first = k * 8 + 1280;
+    let name = scan::part(s, cells[first], cells[first + 1]);
+    name.len() == word.len() && (word.len() <= 8 || name == word)
 }
 
-// The first of the first n rows that is of a scope and has the name that stands from start up to end, one more than its place, and 0 where there is none; 425 where the index does not tell.
-fn place(s: &[u8], cells: &[usize], n: usize, scope: usize, start: usize, end: usize) -> usize
-    ensures { (0 < result → result < 425 → result ≤ room_in cells.now) × (Indexed s.now cells.now → result < 425 → result ≡ named_first s.now scope (slice start end s.now) cells.now n) }
+// Where the index finds the first of the first n rows that is of a scope and has this name.
+fn place(s: &[u8], cells: &[usize], n: usize, scope: usize, word: &[u8]) -> Lookup
+    ensures { Placed s.now cells.now n scope word.now result }
 {
-    if 4672 <= cells.len() {
-        if n <= 424 {
-            if n <= cells[0] {
-                let stop = least(end, s.len());
-                if start < stop {
-                    let letters = stop - start;
-                    let key = hashing::key_of(s, start, letters);
-                    let chain = hashing::chain_of(scope, key);
-                    let head = cells[chain + 256];
-                    if head == 0 {
-                        return 0;
-                    }
-                    let found = chained(cells, n, scope, key, head);
-                    if found == 0 {
-                        return 0;
-                    }
-                    if is_named(s, cells, found - 1, start, letters) {
-                        return found;
-                    }
-                }
-            }
-        }
+    if cells.len() < 4672 || 424 < n || cells[0] < n || word.is_empty() {
+        return Lookup::Untold;
     }
-    425
+    let key = hashing::key_of(word);
+    let head = cells[hashing::chain_of(scope, key) + 256];
+    if head == 0 {
+        return Lookup::Nowhere;
+    }
+    match chained(cells, n, scope, key, head) {
+        None => Lookup::Nowhere,
+        Some(k) if is_named(s, cells, k, word) => Lookup::At(k),
+        Some(_) => Lookup::Untold,
+    }
 }
 
 // What the name that stands from start up to end means in the scope of a number, among the first n rows.
 pub fn found(s: &[u8], cells: &[usize], n: usize, scope: usize, start: usize, end: usize) -> Row
     ensures { Indexed s.now cells.now → result ≡ find_row s.now (rows_in cells.now n) scope (slice start end s.now) }
 {
-    let place = place(s, cells, n, scope, start, end);
-    if place == 0 {
-        return unknown();
+    let word = scan::part(s, start, end);
+    match place(s, cells, n, scope, word) {
+        Lookup::At(k) => whole(cells, k),
+        Lookup::Nowhere => unknown(),
+        Lookup::Untold => searched(s, cells, n, scope, word),
     }
-    if place < 425 {
-        return whole(cells, place - 1);
-    }
-    searched(s, cells, n, scope, start, end)
-}
-
-// A scope's number, where it has one that fits.
-fn number_of(scope: Scope) -> usize
-    ensures { fitting scope ≡ true → result ≡ scope_of scope }
-{
-    match scope {
-        Scope::Numbered(number) => number,
-        Scope::OfTask(task) => std::num::wrapping_add_usize(task, 1),
-    }
-}
-
-// How many of the first n rows may be of a scope: none where its number does not fit.
-fn rows_of(scope: Scope, n: usize) -> usize
-    ensures { result ≡ (if fitting scope then n else 0) }
-{
-    if let Scope::OfTask(task) = scope {
-        if 18446744073709551615 <= task {
-            return 0;
-        }
-    }
-    n
 }
 
 // What the name that stands from start up to end means in a scope, among the first n rows.
 pub fn find(s: &[u8], cells: &[usize], n: usize, scope: Scope, start: usize, end: usize) -> Row
     ensures { Indexed s.now cells.now → result ≡ find_row s.now (rows_in cells.now n) (scope_of scope) (slice start end s.now) }
 {
-    let rows = rows_of(scope, n);
-    let number = number_of(scope);
-    let place = place(s, cells, rows, number, start, end);
-    if place == 0 {
-        return unknown();
-    }
-    if place < 425 {
-        return whole(cells, place - 1);
-    }
-    searched(s, cells, rows, number, start, end)
-}
-
-// Whether a row is one of those that are counted.
-fn is_of(sought: Sought, row: Row) -> bool
-    ensures { result ≡ is_of sought row }
-{
-    match sought {
-        Sought::Sort(sort) => row.sort == sort,
-        Sought::Port => {
-            let sort = row.sort;
-            match sort {
-                1 => true,
-                2 => true,
-                5 => true,
-                6 => true,
-                _ => false,
-            }
-        }
-        Sought::PortOf { scope, sort } => {
-            if is_in(row.scope, scope) {
-                return row.sort == sort;
-            }
-            false
-        }
+    match scope.number() {
+        Some(number) => found(s, cells, n, number, start, end),
+        None => unknown(),
     }
 }
 

@@ -1,9 +1,8 @@
 -- What a host program is told: document 01's numbers for each answer, and where a machine stands.
-use Rattle.std.specs.Prelude.{ℕ, List, [], ◌∷◌}
+use Rattle.std.specs.Prelude.{ℕ, List, [], ◌∷◌, Ok, Err}
 use Rattle.std.proofs.Math.Option.{Option, none, some}
 use Rattle.tables.specs.declared.Table.{Table}
-use Rattle.prescribed.specs.declared.Compiled.{Compiled}
-use Rattle.prescribed.specs.declared.Compiled.TheVariants.{Written, Refused}
+use Rattle.prescribed.specs.Compiled.{Compiled}
 use Rattle.machine.specs.Answers.{Meaning, reaction_means, turn_means, finishing_means}
 use Rattle.machine.specs.Calls as C
 use Rattle.calls.specs.declared.Standing.{Standing}
@@ -13,8 +12,8 @@ use Rattle.native.specs.declared.Face.{Face}
 
 -- the compiler's answer: 0 and the length of the file, or the refusal's number and byte offset
 abbrev pub translation : Compiled → Translation
-translation (Written length) = record { number = 0; place = length }
-translation (Refused number at) = record { number = number; place = at }
+translation (Ok length) = record { number = 0; place = length }
+translation (Err r) = record { number = r.number; place = r.at }
 
 -- how many instructions, sensors and modes a table has
 abbrev pub counts_in : Table → List ℕ

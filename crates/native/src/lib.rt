@@ -13,16 +13,17 @@ ghost use Rattle.prescribed.specs.Answers.{answered, buffered};
 ghost use Rattle.prescribed.specs.Compiles.{compile_of};
 ghost use Rattle.reading.specs.Readings.{reading_of, table_in};
 ghost use Rattle.steps.specs.Rows.{board_by};
-ghost use Rattle.calls.specs.States.{state_by};
-ghost use Rattle.calls.specs.Lent.{lent, lent_by, sets_handed, sets_finished};
+ghost use Rattle.calls.specs.States.{state_of, state_by};
+ghost use Rattle.calls.specs.Lent.{numbers_of, sets_of, lent, lent_as, lent_by, sets_as, sets_handed, sets_upon, sets_finished};
 ghost use Rattle.native.specs.Faces.{translation, counts_in, held_of, face_of, tick_face, turn_face, finish_face};
 ghost use Rattle.native.specs.Copies.{is_read, ticks_from, ticks_of};
 
 use calls::Standing;
 use emachine::Machine;
-use file::ReadAnswer;
-use machine::{Finishing, Reaction, Turn};
+use file::{ReadAnswer, Refused};
+use machine::Reaction;
 use prescribed::Compiled;
+use steps::programs::Program;
 
 // The compiler's answer: the refusal's number, or 0; the refusal's byte offset, or the length of the file.
 #[repr(C)]
@@ -32,7 +33,7 @@ pub struct Translation {
     pub place: usize,
 }
 
-// Where a machine stands, as one record.
+// Where a machine stands (Standing), in the layout of the C interface.
 #[repr(C)]
 #[derive(Clone, Copy)]
 pub struct Held {
@@ -63,13 +64,13 @@ fn compiled(answer: Compiled) -> Translation
     ensures { result ≡ translation answer }
 {
     match answer {
-        Compiled::Written(length) => Translation {
+        Ok(length) => Translation {
             number: 0,
             place: length,
         },
-        Compiled::Refused { number, at } => Translation {
-            number: number,
-            place: at,
+        Err(refusal) => Translation {
+            number: refusal.number,
+            place: refusal.at,
         },
     }
 }
@@ -79,8 +80,7 @@ pub fn native_compile(text: &[u8], out: &mut [u8]) -> Translation
     ensures answer { result ≡ translation (answered (compile_of text.now (length out.old))) }
     ensures buffer { out.new ≡ buffered out.old (compile_of text.now (length out.old)) }
 {
-    let answer = tdl::compile(text, out);
-    compiled(answer)
+    compiled(tdl::compile(text, out))
 }
 
 // ---- the reader
@@ -95,6 +95,7 @@ fn read_number(answer: ReadAnswer) -> u8
 }
 
 // What a machine needs of the table that some bytes hold, into arrays of the host; beside a refusal, its number, they are blank.
+// The C interface lends each array by itself.
 pub fn native_read(
     bytes: &[u8],
     counts: &mut [u32; 3],
@@ -119,6 +120,7 @@ pub fn native_read(
     let reading = ecode::read(bytes);
     let table = reading.table;
     *counts = [table.instructions, table.sensors, table.modes];
+    // The prover takes no array straight from a field.
     let code_rows = table.code;
     let driver_rows = table.driver_rows;
     let guard_rows = table.guard_rows;
@@ -133,8 +135,7 @@ pub fn native_read(
     *tasks = task_rows;
     *types = port_types;
     *starts = port_starts;
-    let answer = reading.answer;
-    read_number(answer)
+    read_number(reading.answer)
 }
 
 // ---- the machine, over arrays of the host
@@ -143,9 +144,9 @@ fn told(number: u8, instructions: u32, task: u32) -> Face
     ensures { result ≡ record { number = number; instructions = instructions; task = task } }
 {
     Face {
-        number: number,
-        instructions: instructions,
-        task: task,
+        number,
+        instructions,
+        task,
     }
 }
 
@@ -153,51 +154,113 @@ fn tick_face(answer: Reaction) -> Face
     ensures { result ≡ face_of (reaction_means answer) }
 {
     match answer {
-        Reaction::Obeyed(instructions) => told(0, instructions, 4294967295),
-        Reaction::Idle => told(0, 0, 4294967295),
-        Reaction::Refused(number) => told(number, 0, 4294967295),
+        Reaction::Obeyed(instructions) => told(0, instructions, u32::MAX),
+        Reaction::Idle => told(0, 0, u32::MAX),
+        Reaction::Refused(number) => told(number, 0, u32::MAX),
         Reaction::Late(task) => told(40, 0, task),
-        Reaction::Fault(number) => told(number, 0, 4294967295),
+        Reaction::Fault(number) => told(number, 0, u32::MAX),
     }
 }
 
-fn turn_face(answer: Turn) -> Face
+fn turn_face(answer: Result<Option<u32>, Refused>) -> Face
     ensures { result ≡ face_of (turn_means answer) }
 {
     match answer {
-        Turn::Task(task) => told(0, 0, task),
-        Turn::Nobody => told(0, 0, 4294967295),
-        Turn::Refused(number) => told(number, 0, 4294967295),
+        Ok(Some(task)) => told(0, 0, task),
+        Ok(None) => told(0, 0, u32::MAX),
+        Err(refused) => told(refused.number, 0, u32::MAX),
     }
 }
 
-fn finish_face(answer: Finishing) -> Face
+fn finish_face(answer: Result<(), Refused>) -> Face
     ensures { result ≡ face_of (finishing_means answer) }
 {
     match answer {
-        Finishing::Taken => told(0, 0, 4294967295),
-        Finishing::Refused(number) => told(number, 0, 4294967295),
+        Ok(()) => told(0, 0, u32::MAX),
+        Err(why) => told(why.number, 0, u32::MAX),
+    }
+}
+
+// Where a machine stands, as a host holds it.
+fn numbers_in(at: &Standing) -> [u32; 5]
+    ensures { result ≡ numbers_of (state_of at.now [] []) }
+{
+    [at.clock, at.remaining, at.mode, at.pc, at.late]
+}
+
+fn sets_in(at: &Standing) -> [u64; 3]
+    ensures { result ≡ sets_of (state_of at.now [] []) }
+{
+    [at.out, at.waiting, at.finished]
+}
+
+// What a tick, next and finish leave in the host's arrays: after a refusal what they held.
+fn write_ticked(
+    answer: Reaction,
+    at: &Standing,
+    numbers: &mut [u32; 5],
+    marks: &mut [u8; 2],
+    sets: &mut [u64; 3],
+)
+    ensures { (ports aside : List ℕ) → lent numbers.new marks.new sets.new
+        ≡ lent_as (lent numbers.old marks.old sets.old) answer (state_of at.now ports aside) }
+{
+    match answer {
+        Reaction::Obeyed(_) => {
+            *numbers = numbers_in(at);
+            *sets = sets_in(at);
+        }
+        Reaction::Idle => *numbers = numbers_in(at),
+        Reaction::Refused(_) => {}
+        Reaction::Late(_) => {
+            *numbers = numbers_in(at);
+            *marks = [1, 40];
+        }
+        Reaction::Fault(number) => {
+            *numbers = numbers_in(at);
+            *marks = [1, number];
+        }
+    }
+}
+
+fn write_handed(answer: Result<Option<u32>, Refused>, at: &Standing, sets: &mut [u64; 3])
+    ensures { (ports aside : List ℕ) → sets.new ≡ sets_as sets.old answer (state_of at.now ports aside) }
+{
+    match answer {
+        Ok(Some(_)) => *sets = sets_in(at),
+        Ok(None) => {}
+        Err(_) => {}
+    }
+}
+
+fn write_finished(answer: Result<(), Refused>, at: &Standing, sets: &mut [u64; 3])
+    ensures { (ports aside : List ℕ) → sets.new ≡ sets_upon sets.old answer (state_of at.now ports aside) }
+{
+    match answer {
+        Ok(()) => *sets = sets_in(at),
+        Err(_) => {}
     }
 }
 
 // A tick at a count, with the types and words of the readings.
-pub fn native_tick<'a, 'b>(
+// The C interface lends each array by itself.
+pub fn native_tick(
     instructions: u32,
-    code: &'a [u32; 12288],
-    drivers: &'a [u32; 3456],
-    guards: &'a [u32; 1536],
-    modes: &'a [u32; 24],
-    tasks: &'a [u32; 128],
-    wanted: &'a [u32; 320],
+    code: &[u32; 12288],
+    drivers: &[u32; 3456],
+    guards: &[u32; 1536],
+    modes: &[u32; 24],
+    tasks: &[u32; 128],
+    wanted: &[u32; 320],
     sensors: u32,
-    aside: &'a [u32; 256],
+    aside: &[u32; 256],
     ports: &mut [u32; 320],
     numbers: &mut [u32; 5],
     marks: &mut [u8; 2],
     sets: &mut [u64; 3],
     count: u32,
-    types: &'b [u32],
-    words: &'b [u32],
+    types: &[u32],
+    words: &[u32],
 ) -> Face
     ensures answer { result ≡ tick_face (tick (board_by instructions code.now drivers.now guards.now modes.now tasks.now wanted.now [] sensors 0)
         (state_by numbers.old marks.old sets.old ports.old aside.now) count types.now words.now) }
@@ -209,24 +272,19 @@ pub fn native_tick<'a, 'b>(
         (tick (board_by instructions code.now drivers.now guards.now modes.now tasks.now wanted.now [] sensors 0)
         (state_by numbers.old marks.old sets.old ports.old aside.now) count types.now words.now) }
 {
-    let answer = calls::tick_on(
+    let program = Program {
         instructions,
         code,
         drivers,
         guards,
         modes,
         tasks,
-        wanted,
+        types: wanted,
         sensors,
-        aside,
-        ports,
-        numbers,
-        marks,
-        sets,
-        count,
-        types,
-        words,
-    );
+    };
+    let mut at = calls::standing_in(numbers, marks, sets);
+    let answer = calls::tick_on(&program, aside, ports, &mut at, count, types, words);
+    write_ticked(answer, &at, numbers, marks, sets);
     tick_face(answer)
 }
 
@@ -238,20 +296,23 @@ pub fn native_next(marks: &[u8; 2], sets: &mut [u64; 3]) -> Face
     ensures sets { (numbers ports aside : List ℕ) → sets.new
         ≡ sets_handed sets.old (next_task (state_by numbers marks.now sets.old ports aside)) }
 {
-    let answer = calls::next_on(marks, sets);
+    let mut at = calls::standing_in(&[0; 5], marks, sets);
+    let answer = calls::next_on(&mut at);
+    write_handed(answer, &at, sets);
     turn_face(answer)
 }
 
 // A task is finished, with the types and words of its results, which go aside.
-pub fn native_finish<'a, 'b>(
-    tasks: &'a [u32; 128],
-    wanted: &'a [u32; 320],
+// The C interface lends each array by itself.
+pub fn native_finish(
+    tasks: &[u32; 128],
+    wanted: &[u32; 320],
     aside: &mut [u32; 256],
-    marks: &'a [u8; 2],
+    marks: &[u8; 2],
     sets: &mut [u64; 3],
     task: u32,
-    types: &'b [u32],
-    words: &'b [u32],
+    types: &[u32],
+    words: &[u32],
 ) -> Face
     ensures answer { (numbers ports : List ℕ) → result ≡ finish_face (finish (board_by 0 [] [] [] [] tasks.now wanted.now [] 0 0)
         (state_by numbers marks.now sets.old ports aside.old) task types.now words.now) }
@@ -262,7 +323,9 @@ pub fn native_finish<'a, 'b>(
         ≡ sets_finished sets.old (finish (board_by 0 [] [] [] [] tasks.now wanted.now [] 0 0)
         (state_by numbers marks.now sets.old ports aside.old) task types.now words.now) }
 {
-    let answer = calls::finish_on(tasks, wanted, aside, marks, sets, task, types, words);
+    let mut at = calls::standing_in(&[0; 5], marks, sets);
+    let answer = calls::finish_on(tasks, wanted, aside, &mut at, task, types, words);
+    write_finished(answer, &at, sets);
     finish_face(answer)
 }
 
@@ -288,46 +351,33 @@ fn hold(at: Standing) -> Held
 fn is_read(answer: ReadAnswer) -> bool
     ensures { result ≡ is_read answer }
 {
-    match answer {
-        ReadAnswer::Read => true,
-        ReadAnswer::Refused(_) => false,
-    }
+    matches!(answer, ReadAnswer::Read)
 }
 
 // So many ticks, each so much later than the last accepted count, all with the same readings.
-fn ticked<'b>(m: Machine, later: u32, times: u32, types: &'b [u32], words: &'b [u32]) -> Machine
+fn ticked(m: Machine, later: u32, times: u32, types: &[u32], words: &[u32]) -> Machine
     ensures { result ≡ ticks_from later types.now words.now times m }
 {
     let mut machine = m;
-    let mut k = 0u32;
-    while k < times {
-        let count = std::num::wrapping_add_u32(machine.standing.clock, later);
-        let served = emachine::tick(machine, count, types, words);
-        let next = served.machine;
-        machine = next;
-        k += 1;
+    for _k in 0..times {
+        let count = machine.standing.clock.wrapping_add(later);
+        machine.tick(count, types, words);
     }
     machine
 }
 
 // The file that some bytes hold, started at a count and ticked so many times: where the machine then stands.
-pub fn native_ticks<'a, 'b>(
-    bytes: &'a [u8],
+pub fn native_ticks(
+    bytes: &[u8],
     count: u32,
     later: u32,
     times: u32,
-    types: &'b [u32],
-    words: &'b [u32],
+    types: &[u32],
+    words: &[u32],
 ) -> Held
     ensures { result ≡ held_of (ticks_of (reading_of (decode bytes.now)) count later times types.now words.now).standing }
 {
     let reading = ecode::read(bytes);
-    let answer = reading.answer;
-    let table = reading.table;
-    let sound = is_read(answer);
-    let begun = emachine::start_on(table, sound, count, types, words);
-    let first = begun.machine;
-    let last = ticked(first, later, times, types, words);
-    let at = last.standing;
-    hold(at)
+    let begun = emachine::start_on(reading.table, is_read(reading.answer), count, types, words);
+    hold(ticked(begun.machine, later, times, types, words).standing)
 }

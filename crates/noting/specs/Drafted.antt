@@ -15,7 +15,7 @@ use Rattle.model.specs.declared.Function.{Function}
 use Rattle.model.specs.declared.Function.TheVariants.{IsTrue, IsFalse, Less, Equal}
 use Rattle.model.specs.Modules.{Mode, Call, Update}
 use Rattle.refusals.specs.declared.Row.{Row}
-use Rattle.refusals.specs.declared.Verdict.TheVariants.{Fine}
+use Rattle.refusals.specs.Verdicts.{Fine}
 use Rattle.refusals.specs.Checks.{first}
 use Rattle.refusals.specs.ChecksLaws.{fine-parts, fine-one}
 use Rattle.refusals.specs.Names.{letters, module_scope, task_scope, task_sort, actuator_sort, mode_sort, input_sort, is_known, is_port_of, count, types}

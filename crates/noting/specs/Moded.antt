@@ -7,7 +7,7 @@ use Rattle.std.proofs.lemmas.List.{length-map, take-set-le}
 use Rattle.text.specs.declared.Name.{Name}
 use Rattle.model.specs.Rooms.{activity_room, period_room}
 use Rattle.model.specs.Modules.{Mode, Act, Call, Update}
-use Rattle.refusals.specs.declared.Verdict.TheVariants.{Fine}
+use Rattle.refusals.specs.Verdicts.{Fine}
 use Rattle.refusals.specs.Checks.{first}
 use Rattle.refusals.specs.Refusals.{among}
 use Rattle.refusals.specs.Twice.{twice_in, twice_of, twice-more}

@@ -5,7 +5,7 @@ use Rattle.text.specs.declared.Name.{Name}
 use Rattle.text.specs.declared.Item.{Item}
 use Rattle.text.specs.declared.Item.TheVariants as I
 use Rattle.refusals.specs.declared.Row.{Row}
-use Rattle.refusals.specs.declared.Verdict.TheVariants.{Fine}
+use Rattle.refusals.specs.Verdicts.{Fine}
 use Rattle.refusals.specs.Checks.{first}
 use Rattle.refusals.specs.ChecksLaws.{fine-parts, fine-one}
 use Rattle.refusals.specs.Names.{constant_sort, sensor_sort, actuator_sort, task_sort, mode_sort, input_sort, output_sort, is_sort, count}

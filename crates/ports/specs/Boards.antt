@@ -1,5 +1,5 @@
 -- What an item of the text puts into the arrays of a table, whatever stands in them.
-use Rattle.std.specs.Prelude.{ℕ, ◌+◌, ◌*◌, min, List, [], ◌∷◌, set, take}
+use Rattle.std.specs.Prelude.{ℕ, ◌≡◌, ◌+◌, ◌*◌, min, List, [], ◌∷◌, set, take}
 use Rattle.std.proofs.Math.Seq.{slice}
 use Rattle.model.specs.Rooms.{name_room}
 use Rattle.text.specs.declared.Name.{Name}
@@ -11,6 +11,9 @@ use Rattle.layout.specs.Filling.{stored}
 use Rattle.refusals.specs.declared.Row.{Row}
 use Rattle.refusals.specs.Values.{type_named, literal_word}
 use Rattle.ports.specs.declared.Ports.{Ports}
+use Rattle.ports.specs.declared.Arrays.{Arrays}
+use Rattle.ports.specs.declared.rows.Role.{Role}
+use Rattle.ports.specs.declared.rows.Role.TheVariants as R
 
 -- ---- numbers and names as the arrays hold them
 
@@ -130,6 +133,33 @@ board counts names lanes rows = record { counts = counts; names = names; lanes =
 -- the same from each array
 abbrev pub board_of : Ports → List ℕ → List ℕ → List ℕ → List ℕ → List ℕ → List ℕ → List ℕ → List ℕ → List ℕ → Board
 board_of counts title sensors actuators tasks outputs roles types starts rows = board counts (titles_of title sensors actuators tasks outputs) (lanes_of roles types starts) rows
+
+-- the same from the arrays that are lent
+abbrev pub board_in : Arrays → Board
+board_in a = board_of a.counts a.title.now a.sensors.now a.actuators.now a.tasks.now a.outputs.now a.roles.now a.types.now a.starts.now a.rows.now
+
+-- the same arrays, whatever stands in them
+pub record SameArrays (a b : Arrays) : Type 0 where
+  pub title : a.title.ghost_name ≡ b.title.ghost_name
+  pub sensors : a.sensors.ghost_name ≡ b.sensors.ghost_name
+  pub actuators : a.actuators.ghost_name ≡ b.actuators.ghost_name
+  pub tasks : a.tasks.ghost_name ≡ b.tasks.ghost_name
+  pub outputs : a.outputs.ghost_name ≡ b.outputs.ghost_name
+  pub roles : a.roles.ghost_name ≡ b.roles.ghost_name
+  pub types : a.types.ghost_name ≡ b.types.ghost_name
+  pub starts : a.starts.ghost_name ≡ b.starts.ghost_name
+  pub rows : a.rows.ghost_name ≡ b.rows.ghost_name
+
+-- what a port is
+abbrev pub role_of : Role → ℕ
+role_of R.Sensor = sensor_role
+role_of R.Actuator = actuator_role
+role_of R.Input = input_role
+role_of R.Output = output_role
+
+-- the next port
+abbrev pub port_put : ℕ → ℕ → ℕ → Board → Board
+port_put role typ start b = board b.counts b.names (lane_put b.counts.ports role typ start b.lanes) b.rows
 
 -- the arrays behind an item, where these rows of names stand before it
 unfoldable pub placed_by : List ℕ → List Row → Item → Board → Board

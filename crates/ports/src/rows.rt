@@ -1,77 +1,26 @@
-// Names in rows of 33 cells, a length and up to 32 bytes; and the numbers that count what is declared.
-ghost use Rattle.std.specs.Prelude.{◌≡◌, ◌-◌, ◌<◌, ◌^◌, min, length};
+// Names in rows of 33 cells, a length and up to 32 bytes; and the cells of a port.
+ghost use Rattle.std.specs.Prelude.{◌≡◌, ◌<◌, ◌≤◌, ◌^◌, length};
+ghost use Rattle.names.specs.Tables.{rows_in};
+ghost use Rattle.names.specs.Index.{Indexed};
+ghost use Rattle.refusals.specs.Values.{type_named, literal_word};
 ghost use Rattle.layout.specs.Filling.{stored};
-ghost use Rattle.ports.specs.Boards.{word as word_of, more as one_more, both as both_of, short_part, short_name, name_row};
+ghost use Rattle.ports.specs.Boards.{word, short_name, name_row, name_put, names_put, role_of, board_in, port_put, SameArrays};
 
-use text::Name;
+use super::Arrays;
+use heads::numbers::clamp;
+use heads::stores::store;
+use heads::titles::letters;
+use text::{Literal, Name};
 
-// A number as 32 bits hold it: the highest stands for all above it.
-pub(super) fn word(number: usize) -> u32
-    ensures { result ≡ word_of number }
+// ---- names
+
+// The bytes of a name that stand in its row.
+fn short(s: &[u8], name: Name) -> &[u8]
+    ensures name { result.now ≡ short_name s.now name }
+    ensures few { length result.now ≤ 32 }
 {
-    if number < 4294967295 {
-        return number as u32;
-    }
-    4294967295
-}
-
-// One more, and a sum.
-pub(super) fn more(count: u32) -> u32
-    ensures { result ≡ one_more count }
-{
-    word(cells::wide32(count) + 1)
-}
-
-pub(super) fn both(left: u32, right: u32) -> u32
-    ensures { result ≡ both_of left right }
-{
-    let first = cells::wide32(left);
-    let second = cells::wide32(right);
-    word(first + second)
-}
-
-fn least(a: usize, b: usize) -> usize
-    ensures { result ≡ min a b }
-{
-    if a < b {
-        return a;
-    }
-    b
-}
-
-// How many bytes of a name stand in its row.
-fn size(s: &[u8], name: Name) -> usize
-    ensures { result ≡ length (short_name s.now name) }
-{
-    let start = name.start;
-    let end = least(name.end, s.len());
-    if end <= start {
-        return 0;
-    }
-    least(end - start, 32)
-}
-
-// How many cells there are from a place on.
-fn room(all: usize, place: usize) -> usize
-    ensures { result ≡ all - place }
-{
-    if place < all {
-        return all - place;
-    }
-    0
-}
-
-// Those bytes, to the cells from a place on.
-fn copy(s: &[u8], start: usize, end: usize, many: usize, place: usize, names: &mut [u8])
-    requires { (many ≡ length (short_part s.now start end)) × (place < 2 ^ 41) }
-    ensures { names.new ≡ stored names.old place (short_part s.now start end) }
-{
-    let stop = least(many, room(names.len(), place));
-    let mut k = 0;
-    while k < stop {
-        names[place + k] = s[start + k];
-        k += 1;
-    }
+    let word = letters(s, name);
+    &word[..word.len().min(32)]
 }
 
 // A name, to the row that begins at a place.
@@ -79,7 +28,72 @@ pub(super) fn name_row(s: &[u8], name: Name, place: usize, names: &mut [u8])
     requires { place < 2 ^ 40 }
     ensures { names.new ≡ stored names.old place (name_row s.now name) }
 {
-    let many = size(s, name);
-    cells::put8(names, place, many as u8);
-    copy(s, name.start, name.end, many, place + 1, names);
+    let word = short(s, name);
+    cells::put8(names, place, word.len() as u8);
+    store(names, place + 1, word);
+}
+
+// A name, to row k.
+pub(super) fn one(s: &[u8], k: u32, name: Name, names: &mut [u8])
+    ensures { names.new ≡ name_put s.now k name names.old }
+{
+    name_row(s, name, k as usize * 33, names);
+}
+
+// The two names of record k.
+pub(super) fn two(s: &[u8], k: u32, first: Name, second: Name, names: &mut [u8])
+    ensures { names.new ≡ names_put s.now k first second names.old }
+{
+    let row = k as usize * 66;
+    name_row(s, first, row, names);
+    name_row(s, second, row + 33, names);
+}
+
+// ---- ports
+
+// What a port is.
+#[derive(Clone, Copy)]
+pub(super) enum Role {
+    Sensor,
+    Actuator,
+    Input,
+    Output,
+}
+
+impl Role {
+    fn number(self) -> u32
+        ensures { result ≡ role_of self }
+    {
+        match self {
+            Role::Sensor => 1,
+            Role::Actuator => 2,
+            Role::Input => 3,
+            Role::Output => 4,
+        }
+    }
+}
+
+// The type that a name stands for.
+pub(super) fn type_word(s: &[u8], typ: Name) -> u32
+    ensures { result ≡ type_named s.now typ }
+{
+    clamp(meanings::type_named(s, typ))
+}
+
+// The word of a value.
+pub(super) fn start_word(s: &[u8], cells: &[usize], n: usize, value: Literal) -> u32
+    ensures { Indexed s.now cells.now → result ≡ word (literal_word s.now (rows_in cells.now n) value) }
+{
+    clamp(meanings::literal_word(s, cells, n, value))
+}
+
+// The next port.
+pub(super) fn port(role: Role, typ: u32, start: u32, arrays: &mut Arrays)
+    ensures done { board_in arrays.new ≡ port_put (role_of role) typ start (board_in arrays.old) }
+    ensures same { SameArrays arrays.new arrays.old }
+{
+    let at = arrays.counts.ports as usize;
+    cells::put32(arrays.roles, at, role.number());
+    cells::put32(arrays.types, at, typ);
+    cells::put32(arrays.starts, at, start);
 }

@@ -1,5 +1,5 @@
 -- Which texts are accepted, in words apart from the definition's text: each answer with its cause, in document 01's order ('When the compiler says no').
-use Rattle.std.specs.Prelude.{ℕ, ◌≤◌, ◌<◌, ◌≡◌, Bool, true, false, cond, List, length, ltb}
+use Rattle.std.specs.Prelude.{ℕ, ◌≤◌, ◌<◌, ◌≡◌, Bool, true, false, cond, List, length, ltb, Ok, Err}
 use Rattle.std.proofs.Common.{arith, sym, ◌∙◌, ap, ltb-true, ltb-false}
 use Rattle.std.proofs.Math.Path.{refl}
 use Rattle.std.proofs.Math.Option.{Option, none, some}
@@ -12,8 +12,7 @@ use Rattle.grammar.specs.Judgement.{tokens_of, letters, Judged}
 use Rattle.grammar.specs.Judgement as J
 use Rattle.grammar.specs.JudgementLaws.{judged-once}
 use Rattle.grammar.proofs.Syntax.{syntax-judged, syntax-free}
-use Rattle.refusals.specs.declared.Verdict.{Verdict}
-use Rattle.refusals.specs.declared.Verdict.TheVariants.{Fine, No}
+use Rattle.refusals.specs.Verdicts.{Verdict, No, one-refusal}
 use Rattle.refusals.specs.Checks.{Leftmost}
 use Rattle.refusals.specs.ChecksLaws.{leftmost-unique}
 use Rattle.refusals.proofs.RulesOrder.{verdict-leftmost}
@@ -39,8 +38,8 @@ module _ (text : List ℕ) (room : ℕ) where
   by_code r u false e = by-room r u (ltb-false _ _ e) _ refl
 
   by-verdict : Readable text → (v : Verdict) → Leftmost (all_rules text) v → Answers text room (by_verdict text room v)
-  by-verdict r Fine l = by_code r l _ refl
-  by-verdict r (No number at) l = broken number at r l
+  by-verdict r (Ok fine) l = by_code r l _ refl
+  by-verdict r (Err b) l = broken b.number b.at r l
 
   by-syntax : length text ≤ text_room → (o : Option Refusal) → syntax_of text ≡ o → Answers text room (by_syntax text room o)
   by-syntax s (some r) e = unreadable r s (rw e at (syntax-judged text))
@@ -64,8 +63,7 @@ module _ (text : List ℕ) (room : ℕ) where
   one : (number at other there : ℕ) → Leftmost (all_rules text) (No number at) → Leftmost (all_rules text) (No other there) → refused number at ≡ refused other there
   one number at other there p q =
       let e : No number at ≡ No other there = leftmost-unique (all_rules text) (No number at) (No other there) p q in
-      let a : number ≡ other = cc in
-      let b : at ≡ there = cc in
+      let (a, b) = one-refusal e in
       cc
 
   same-refusal : (r q : Refusal) → Judged Module text (some r) → Judged Module text (some q) → refused r.number r.offset ≡ refused q.number q.offset

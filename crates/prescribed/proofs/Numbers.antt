@@ -4,8 +4,9 @@ use Rattle.std.proofs.Common.{arith, sym}
 use Rattle.std.proofs.Math.Option.{some}
 use Rattle.text.proofs.ItemsLaws.{syntax-refused}
 use Rattle.grammar.proofs.Syntax.{syntax-only}
+use Rattle.refusals.specs.Verdicts.{one-refusal}
 use Rattle.refusals.proofs.RulesOrder.{cause-listed}
-use Rattle.prescribed.specs.declared.Compiled.TheVariants.{Refused}
+use Rattle.prescribed.specs.Compiled.{Refused}
 use Rattle.prescribed.specs.Compiles.{Compiling, refused, compile_of}
 use Rattle.prescribed.specs.Answers.{answered}
 use Rattle.prescribed.specs.Acceptance.{Answers, long, unreadable, broken, overfull, roomless, accepted}
@@ -15,8 +16,7 @@ use Rattle.prescribed.specs.Numbers.{Listed}
 module _ (text : List ℕ) (room : ℕ) where
   same : {n a number at : ℕ} → Listed text n a → answered (refused n a) ≡ Refused number at → Listed text number at
   same {n} {a} {number} {at} l e =
-      let p : n ≡ number = cc in
-      let q : a ≡ at = cc in
+      let (p, q) = one-refusal e in
       rw (← p, ← q) l
 
   listed : {c : Compiling} → Answers text room c → (number at : ℕ) → answered c ≡ Refused number at → Listed text number at

@@ -7,7 +7,7 @@ use Rattle.text.specs.Items.{Refusal}
 use Rattle.grammar.specs.Expressions.{Word}
 use Rattle.grammar.specs.Grammar.{Module}
 use Rattle.grammar.specs.Judgement.{tokens_of, letters, Judged}
-use Rattle.refusals.specs.declared.Verdict.TheVariants.{No}
+use Rattle.refusals.specs.Verdicts.{No}
 use Rattle.refusals.specs.Checks.{Cause, Leftmost}
 use Rattle.refusals.specs.Texts.{all_rules, module_of}
 use Rattle.timing.specs.Code.{code_of}

@@ -1,7 +1,7 @@
 -- For the enum of the compiler's answers, document 01's number and values for each of its cases, and what the lent buffer then holds.
 use Rattle.std.specs.Prelude.{ℕ, List, ◌++◌, length, drop}
-use Rattle.prescribed.specs.declared.Compiled.{Compiled}
-use Rattle.prescribed.specs.declared.Compiled.TheVariants.{Written, Refused}
+use Rattle.prescribed.specs.Compiled.{Compiled}
+use Rattle.prescribed.specs.Compiled.{Written, Refused}
 use Rattle.prescribed.specs.Compiles.{Compiling, file, refused}
 
 -- the answer

@@ -1,11 +1,10 @@
 -- What the compiler answers for a text and a buffer of a length (document 01, 'When the compiler says no').
-use Rattle.std.specs.Prelude.{ℕ, cond, List, length, ltb}
+use Rattle.std.specs.Prelude.{ℕ, cond, List, length, ltb, Ok, Err}
 use Rattle.std.proofs.Math.Option.{Option, none, some}
 use Rattle.model.specs.Rooms.{text_room, code_room}
 use Rattle.model.specs.Modules.{Module}
 use Rattle.text.specs.Items.{Refusal, syntax_of}
-use Rattle.refusals.specs.declared.Verdict.{Verdict}
-use Rattle.refusals.specs.declared.Verdict.TheVariants.{Fine, No}
+use Rattle.refusals.specs.Verdicts.{Verdict}
 use Rattle.refusals.specs.Texts.{verdict_of, module_of}
 use Rattle.timing.specs.Code.{code_of}
 use Rattle.file.specs.Files.{encode}
@@ -32,8 +31,8 @@ of_module end room M =
 
 -- the leftmost of 4 to 12
 abbrev pub by_verdict : List ℕ → ℕ → Verdict → Compiling
-by_verdict text room (No number at) = refused number at
-by_verdict text room Fine = of_module (length text) room (module_of text)
+by_verdict text room (Err r) = refused r.number r.at
+by_verdict text room (Ok fine) = of_module (length text) room (module_of text)
 
 -- the leftmost 2 or 3; only in a text free of these the others
 abbrev pub by_syntax : List ℕ → ℕ → Option Refusal → Compiling

@@ -1,3 +1,4 @@
+pub mod Compiled
 pub mod Tables
 pub mod Compiles
 pub mod Answers

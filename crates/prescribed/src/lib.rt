@@ -3,9 +3,7 @@
 // Builds on grammar, refusals, timing, machine, file, text and model.
 #![tactic(auto)]
 
+use text::Refusal;
+
 // The answer of compile: the length of the file that now stands at the front of the buffer, or a refusal and its byte offset.
-#[derive(Clone, Copy)]
-pub enum Compiled {
-    Written(usize),
-    Refused { number: u8, at: usize },
-}
+pub type Compiled = Result<usize, Refusal>;

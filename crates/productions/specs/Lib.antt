@@ -1,3 +1,5 @@
-pub mod Behind
-pub mod Ahead
+pub mod Read
+pub mod ReadLaws
+pub mod ModeLaws
+pub mod ActLaws
 pub mod Counted

@@ -1,71 +1,63 @@
 // The module's head and its declarations: constants, sensors and actuators.
 ghost use Rattle.std.specs.Prelude.{◌≡◌};
-ghost use Rattle.text.specs.Productions.{module_at};
-ghost use Rattle.productions.specs.Behind.{constant_behind, sensor_behind, actuator_behind};
+ghost use Rattle.productions.specs.Read.{module_of, constant_of, sensor_of, actuator_of};
 
-use super::{close, literals, name_of};
-use text::{Got, Item, ReadItem, State, Token};
+use super::literals;
+use text::{Item, Lexed, Refusal, Token};
 
 // "module" name "{"
-pub fn module(s: &[u8], g: Got) -> ReadItem
-    ensures { result ≡ module_at s.now g }
+#[tactic(auto, unfolding(crate::specs::Read::module_of))]
+pub fn module(s: &[u8], at: usize) -> Result<(Item, usize), Refusal>
+    ensures { result ≡ module_of s.now at }
 {
-    let word = wants::next(s, g, Token::KeyModule);
-    let name = wants::next(s, word, Token::Name);
-    let last = wants::next(s, name, Token::LeftBrace);
-    close(Item::Module(name_of(name)), State::Module(1), last)
+    let word = wants::next(s, at, Token::KeyModule)?;
+    let name = wants::next(s, word.end, Token::Name)?;
+    let last = wants::next(s, name.end, Token::LeftBrace)?;
+    Ok((Item::Module(name), last.end))
 }
 
-// name, which is read, "=" value ";"
-pub fn constant(s: &[u8], name: Got) -> ReadItem
-    ensures { result ≡ constant_behind s.now name }
+// name, which is found, "=" value ";"
+#[tactic(auto, unfolding(crate::specs::Read::constant_of))]
+pub fn constant(s: &[u8], found: Lexed) -> Result<(Item, usize), Refusal>
+    ensures { result ≡ constant_of s.now found }
 {
-    let equals = wants::next(s, name, Token::Equals);
-    let read = literals::read(s, equals);
-    let last = wants::next(s, literals::past(read), Token::Semicolon);
-    let value = read.literal;
-    close(
-        Item::Constant {
-            name: name_of(name),
-            value: value,
-        },
-        State::Module(2),
-        last,
-    )
+    let name = wants::given(found, Token::Name)?;
+    let equals = wants::next(s, name.end, Token::Equals)?;
+    let (value, next) = literals::read(s, equals.end)?;
+    let last = wants::next(s, next, Token::Semicolon)?;
+    Ok((Item::Constant { name, value }, last.end))
 }
 
-// type, which is read, name "uses" name ";"
-pub fn sensor(s: &[u8], typ: Got) -> ReadItem
-    ensures { result ≡ sensor_behind s.now typ }
+// type, which is found, name "uses" name ";"
+#[tactic(auto, unfolding(crate::specs::Read::sensor_of))]
+pub fn sensor(s: &[u8], found: Lexed) -> Result<(Item, usize), Refusal>
+    ensures { result ≡ sensor_of s.now found }
 {
-    let name = wants::next(s, typ, Token::Name);
-    let uses = wants::next(s, name, Token::KeyUses);
-    let getter = wants::next(s, uses, Token::Name);
-    let last = wants::next(s, getter, Token::Semicolon);
-    let item = Item::Sensor {
-        typ: name_of(typ),
-        name: name_of(name),
-        getter: name_of(getter),
-    };
-    close(item, State::Module(3), last)
+    let typ = wants::given(found, Token::Name)?;
+    let name = wants::next(s, typ.end, Token::Name)?;
+    let uses = wants::next(s, name.end, Token::KeyUses)?;
+    let getter = wants::next(s, uses.end, Token::Name)?;
+    let last = wants::next(s, getter.end, Token::Semicolon)?;
+    Ok((Item::Sensor { typ, name, getter }, last.end))
 }
 
-// type, which is read, name ":=" value "uses" name ";"
-pub fn actuator(s: &[u8], typ: Got) -> ReadItem
-    ensures { result ≡ actuator_behind s.now typ }
+// type, which is found, name ":=" value "uses" name ";"
+#[tactic(auto, unfolding(crate::specs::Read::actuator_of))]
+pub fn actuator(s: &[u8], found: Lexed) -> Result<(Item, usize), Refusal>
+    ensures { result ≡ actuator_of s.now found }
 {
-    let name = wants::next(s, typ, Token::Name);
-    let becomes = wants::next(s, name, Token::Becomes);
-    let read = literals::read(s, becomes);
-    let uses = wants::next(s, literals::past(read), Token::KeyUses);
-    let setter = wants::next(s, uses, Token::Name);
-    let last = wants::next(s, setter, Token::Semicolon);
-    let value = read.literal;
+    let typ = wants::given(found, Token::Name)?;
+    let name = wants::next(s, typ.end, Token::Name)?;
+    let becomes = wants::next(s, name.end, Token::Becomes)?;
+    let (value, next) = literals::read(s, becomes.end)?;
+    let uses = wants::next(s, next, Token::KeyUses)?;
+    let setter = wants::next(s, uses.end, Token::Name)?;
+    let last = wants::next(s, setter.end, Token::Semicolon)?;
     let item = Item::Actuator {
-        typ: name_of(typ),
-        name: name_of(name),
-        value: value,
-        setter: name_of(setter),
+        typ,
+        name,
+        value,
+        setter,
     };
-    close(item, State::Module(4), last)
+    Ok((item, last.end))
 }

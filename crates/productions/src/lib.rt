@@ -4,9 +4,9 @@
 #![tactic(auto)]
 
 ghost use Rattle.std.specs.Prelude.{◌≡◌};
-ghost use Rattle.text.specs.Expect.{name_of, closed};
+ghost use Rattle.productions.specs.Read.{closed_of};
 
-use text::{Got, Item, Name, ReadItem, State};
+use text::{Item, ReadItem, Refusal, State};
 
 pub mod activities;
 pub mod declarations;
@@ -16,33 +16,16 @@ pub mod modes;
 mod ports;
 pub mod tasks;
 
-fn name_of(g: Got) -> Name
-    ensures { result ≡ name_of g }
+// An item and the place behind it, or a refusal, in front of this state.
+pub fn close(state: State, read: Result<(Item, usize), Refusal>) -> ReadItem
+    ensures { result ≡ closed_of state read }
 {
-    Name {
-        start: g.start,
-        end: g.end,
-    }
-}
-
-// The item of a production whose last token is `last`, and the state behind it.
-pub fn close(item: Item, state: State, last: Got) -> ReadItem
-    ensures { result ≡ closed item state last }
-{
-    if last.bad != 0 {
-        let refused = Item::No {
-            number: last.bad,
-            at: last.start,
-        };
-        return ReadItem {
-            item: refused,
-            state: state,
-            next: last.end,
-        };
-    }
-    ReadItem {
-        item: item,
-        state: state,
-        next: last.end,
+    match read {
+        Ok((item, next)) => ReadItem { item, state, next },
+        Err(Refusal { number, at }) => ReadItem {
+            item: Item::No { number, at },
+            state,
+            next: at,
+        },
     }
 }

@@ -13,13 +13,9 @@ fn counted(s: &[u8], at: usize) -> usize
     let mut n = 1;
     while i < s.len() {
         let next = scan::list_token(s, i);
-        let token = next.token;
-        match token {
-            Token::Comma => {
-                n += 1;
-            }
-            Token::Name => {}
-            Token::Dot => {}
+        match next.token {
+            Token::Comma => n += 1,
+            Token::Name | Token::Dot => {}
             _ => return n,
         }
         i = next.end;
@@ -32,9 +28,8 @@ pub(crate) fn count(s: &[u8], at: usize, found: Lexed) -> usize
     requires { found ≡ token_at s.now at }
     ensures { result ≡ count_at s.now at }
 {
-    if wants::stands(found, Token::Name) {
-        let end = found.end;
-        return counted(s, end);
+    match found.token {
+        Token::Name => counted(s, found.end),
+        _ => counted(s, at),
     }
-    counted(s, at)
 }

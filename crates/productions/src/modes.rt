@@ -1,72 +1,73 @@
 // Mode: its head, and the head of an activity in it.
 ghost use Rattle.std.specs.Prelude.{◌≡◌};
-ghost use Rattle.text.specs.Expect.{either as either_of};
-ghost use Rattle.text.specs.Productions.{mode_of};
-ghost use Rattle.productions.specs.Behind.{activity_behind, mode_behind};
+ghost use Rattle.productions.specs.Read.{unit_of, mode_of, begin_of, activity_of};
 
-use super::{close, name_of};
-use text::{Got, Item, Lexed, ReadItem, State, Token};
+use text::{Item, Lexed, Refusal, Token};
 
-// The first of two readings that is not refused.
-fn either(first: Got, second: Got) -> Got
-    ensures { result ≡ either_of first second }
+// The place behind a unit, "ms" or "us", and whether it is "ms".
+#[tactic(auto, unfolding(crate::specs::Read::unit_of, crate::specs::Read::unit_by))]
+fn unit(s: &[u8], at: usize) -> Result<(bool, usize), Refusal>
+    ensures { result ≡ unit_of s.now at }
 {
-    if first.bad == 0 {
-        return first;
+    let letters = wants::next(s, at, Token::Name)?;
+    let milli = wants::spelt(s, letters, b"ms").is_ok();
+    if !milli {
+        wants::spelt(s, letters, b"us")?;
     }
-    second
+    Ok((milli, letters.end))
 }
 
-// name "[" "period" "=" number unit "]" "{": the mode that begins at `at`, behind its "mode"
-fn behind(s: &[u8], start: bool, at: usize, word: Got) -> ReadItem
-    ensures { result ≡ mode_of s.now start at word }
+// name "[" "period" "=" number unit "]" "{": the mode that begins at `begin`, behind its "mode"
+#[tactic(auto, unfolding(crate::specs::Read::mode_of))]
+fn behind(s: &[u8], start: bool, begin: usize, at: usize) -> Result<(Item, usize), Refusal>
+    ensures { result ≡ mode_of s.now start begin at }
 {
-    let name = wants::next(s, word, Token::Name);
-    let bracket = wants::next(s, name, Token::LeftBracket);
-    let period = wants::word(s, bracket, b"period");
-    let equals = wants::next(s, period, Token::Equals);
-    let number = wants::next(s, equals, Token::Number);
-    let letters = wants::next(s, number, Token::Name);
-    let milli = wants::spelt(s, letters, b"ms");
-    let micro = wants::spelt(s, letters, b"us");
-    let unit = either(milli, micro);
-    let closing = wants::next(s, unit, Token::RightBracket);
-    let last = wants::next(s, closing, Token::LeftBrace);
+    let name = wants::next(s, at, Token::Name)?;
+    let bracket = wants::next(s, name.end, Token::LeftBracket)?;
+    let period = wants::word(s, bracket.end, b"period")?;
+    let equals = wants::next(s, period.end, Token::Equals)?;
+    let digits = wants::next(s, equals.end, Token::Number)?;
+    let (milli, next) = unit(s, digits.end)?;
+    let closing = wants::next(s, next, Token::RightBracket)?;
+    let last = wants::next(s, closing.end, Token::LeftBrace)?;
     let item = Item::ModeBegin {
-        start: start,
-        at: at,
-        name: name_of(name),
-        digits: name_of(number),
-        milli: milli.bad == 0,
+        start,
+        at: begin,
+        name,
+        digits,
+        milli,
     };
-    close(item, State::Mode(1), last)
+    Ok((item, last.end))
 }
 
 // ["start"] "mode" and what follows; the first token is found
-pub fn begin(s: &[u8], g: Got, found: Lexed) -> ReadItem
-    ensures { result ≡ mode_behind s.now found g }
+#[tactic(auto, unfolding(crate::specs::Read::begin_of))]
+pub fn begin(s: &[u8], found: Lexed) -> Result<(Item, usize), Refusal>
+    ensures { result ≡ begin_of s.now found }
 {
-    if wants::stands(found, Token::KeyStart) {
-        let start = wants::given_any(g, found);
-        let word = wants::next(s, start, Token::KeyMode);
-        return behind(s, true, start.start, word);
+    if found.token == Token::KeyStart {
+        let word = wants::next(s, found.end, Token::KeyMode)?;
+        behind(s, true, found.start, word.end)
+    } else {
+        let word = wants::given(found, Token::KeyMode)?;
+        behind(s, false, word.start, word.end)
     }
-    let word = wants::given(g, found, Token::KeyMode);
-    behind(s, false, word.start, word)
 }
 
-// "[", which is read, "freq" "=" number "]", in section k
-pub fn activity(s: &[u8], k: u8, bracket: Got) -> ReadItem
-    ensures { result ≡ activity_behind s.now k bracket }
+// "[", which is found, "freq" "=" number "]", in section k
+#[tactic(auto, unfolding(crate::specs::Read::activity_of))]
+pub fn activity(s: &[u8], k: u8, found: Lexed) -> Result<(Item, usize), Refusal>
+    ensures { result ≡ activity_of s.now k found }
 {
-    let freq = wants::word(s, bracket, b"freq");
-    let equals = wants::next(s, freq, Token::Equals);
-    let number = wants::next(s, equals, Token::Number);
-    let last = wants::next(s, number, Token::RightBracket);
+    let bracket = wants::given(found, Token::LeftBracket)?;
+    let freq = wants::word(s, bracket.end, b"freq")?;
+    let equals = wants::next(s, freq.end, Token::Equals)?;
+    let digits = wants::next(s, equals.end, Token::Number)?;
+    let last = wants::next(s, digits.end, Token::RightBracket)?;
     let item = Item::Activity {
         kind: k,
         at: bracket.start,
-        digits: name_of(number),
+        digits,
     };
-    close(item, State::Act(k), last)
+    Ok((item, last.end))
 }

@@ -1,58 +1,53 @@
 // Task: name "{" {"input" {type name ";"}} {"output" {type name ":=" value ";"}} "uses" name ";" "}".
 ghost use Rattle.std.specs.Prelude.{◌≡◌};
-ghost use Rattle.productions.specs.Behind.{task_behind, input_behind, output_behind, task_end_behind};
+ghost use Rattle.productions.specs.Read.{task_of, input_of, output_of, task_end_of};
 
-use super::{close, literals, name_of};
-use text::{Got, Item, ReadItem, State, Token};
+use super::literals;
+use text::{Item, Lexed, Refusal, Token};
 
-// "task", which is read, name "{"
-pub fn begin(s: &[u8], word: Got) -> ReadItem
-    ensures { result ≡ task_behind s.now word }
+// "task", which is found, name "{"
+#[tactic(auto, unfolding(crate::specs::Read::task_of))]
+pub fn begin(s: &[u8], found: Lexed) -> Result<(Item, usize), Refusal>
+    ensures { result ≡ task_of s.now found }
 {
-    let name = wants::next(s, word, Token::Name);
-    let last = wants::next(s, name, Token::LeftBrace);
-    close(Item::TaskBegin(name_of(name)), State::Task(1), last)
+    let word = wants::given(found, Token::KeyTask)?;
+    let name = wants::next(s, word.end, Token::Name)?;
+    let last = wants::next(s, name.end, Token::LeftBrace)?;
+    Ok((Item::TaskBegin(name), last.end))
 }
 
-// type, which is read, name ";"
-pub fn input(s: &[u8], typ: Got) -> ReadItem
-    ensures { result ≡ input_behind s.now typ }
+// type, which is found, name ";"
+#[tactic(auto, unfolding(crate::specs::Read::input_of))]
+pub fn input(s: &[u8], found: Lexed) -> Result<(Item, usize), Refusal>
+    ensures { result ≡ input_of s.now found }
 {
-    let name = wants::next(s, typ, Token::Name);
-    let last = wants::next(s, name, Token::Semicolon);
-    close(
-        Item::Input {
-            typ: name_of(typ),
-            name: name_of(name),
-        },
-        State::Task(2),
-        last,
-    )
+    let typ = wants::given(found, Token::Name)?;
+    let name = wants::next(s, typ.end, Token::Name)?;
+    let last = wants::next(s, name.end, Token::Semicolon)?;
+    Ok((Item::Input { typ, name }, last.end))
 }
 
-// type, which is read, name ":=" value ";"
-pub fn output(s: &[u8], typ: Got) -> ReadItem
-    ensures { result ≡ output_behind s.now typ }
+// type, which is found, name ":=" value ";"
+#[tactic(auto, unfolding(crate::specs::Read::output_of))]
+pub fn output(s: &[u8], found: Lexed) -> Result<(Item, usize), Refusal>
+    ensures { result ≡ output_of s.now found }
 {
-    let name = wants::next(s, typ, Token::Name);
-    let becomes = wants::next(s, name, Token::Becomes);
-    let read = literals::read(s, becomes);
-    let last = wants::next(s, literals::past(read), Token::Semicolon);
-    let value = read.literal;
-    let item = Item::Output {
-        typ: name_of(typ),
-        name: name_of(name),
-        value: value,
-    };
-    close(item, State::Task(3), last)
+    let typ = wants::given(found, Token::Name)?;
+    let name = wants::next(s, typ.end, Token::Name)?;
+    let becomes = wants::next(s, name.end, Token::Becomes)?;
+    let (value, next) = literals::read(s, becomes.end)?;
+    let last = wants::next(s, next, Token::Semicolon)?;
+    Ok((Item::Output { typ, name, value }, last.end))
 }
 
-// "uses", which is read, name ";" "}"
-pub fn end(s: &[u8], uses: Got) -> ReadItem
-    ensures { result ≡ task_end_behind s.now uses }
+// "uses", which is found, name ";" "}"
+#[tactic(auto, unfolding(crate::specs::Read::task_end_of))]
+pub fn end(s: &[u8], found: Lexed) -> Result<(Item, usize), Refusal>
+    ensures { result ≡ task_end_of s.now found }
 {
-    let name = wants::next(s, uses, Token::Name);
-    let semicolon = wants::next(s, name, Token::Semicolon);
-    let last = wants::next(s, semicolon, Token::RightBrace);
-    close(Item::TaskEnd(name_of(name)), State::Module(5), last)
+    let uses = wants::given(found, Token::KeyUses)?;
+    let name = wants::next(s, uses.end, Token::Name)?;
+    let semicolon = wants::next(s, name.end, Token::Semicolon)?;
+    let last = wants::next(s, semicolon.end, Token::RightBrace)?;
+    Ok((Item::TaskEnd(name), last.end))
 }

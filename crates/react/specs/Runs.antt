@@ -2,24 +2,30 @@
 use Prim.Native.Nat.{ℕ, zero, suc, ◌+◌, ◌-◌, ◌≤◌, ◌<◌}
 use native.Mathlib.Omega.{arith}
 use Rattle.std.proofs.Math.Numerals.{add-one}
-use Rattle.std.specs.Prelude.{◌≡◌, Bool, cond, length, get_or, drop}
+use Rattle.std.specs.Prelude.{◌≡◌, Bool, cond, length, get_or, drop, Option, Some, None, Result, Ok, Err}
 use Rattle.std.proofs.Math.Path.{refl, sym, ap}
 use Rattle.std.proofs.Common.{◌∙◌, drop_of_length-le, drop-cons}
 use Rattle.std.proofs.Math.Bool.{true, false}
-use Rattle.std.proofs.Math.Option.{Option, none, some}
+use Rattle.std.proofs.Math.Option as M
+use Rattle.std.proofs.Math.Option.{none, some}
 use mathlib.Core.List.{List, [], ◌∷◌}
 use Rattle.std.proofs.Math.Dec.{ltb}
 use borrow.Author.Tests.{ltb-true, ltb-false, lt-ltb, le-ltb}
 use Rattle.model.specs.Instructions.{Instr, nop, future, call, release, iff, jump, return, switch}
 use Rattle.guards.specs.Tabs.{length-tab, within-tab}
 use Rattle.machine.specs.Boards.{Board}
-use Rattle.machine.specs.Instructions.{Fault, wild, astray, Res, ok, bad, Future, Halt, Run, Tally, counted, step, exec, go_on, only, leave}
+use Rattle.machine.specs.Instructions as I
+use Rattle.machine.specs.Instructions.{Res, ok, bad, Halt, Run, Tally, counted, step, exec, go_on, only, leave}
 use Rattle.machine.specs.Store.{Store, store_ops, reaction}
-use Rattle.steps.specs.declared.Ending.{Ending}
-use Rattle.steps.specs.declared.Ending.TheVariants as E
+use Rattle.steps.specs.declared.Core.{Core}
+use Rattle.steps.specs.declared.Future.{Future}
+use Rattle.steps.specs.declared.Halted.{Halted}
+use Rattle.steps.specs.declared.Fault.{Fault}
+use Rattle.steps.specs.declared.Fault.TheVariants as F
 use Rattle.steps.specs.declared.Row.{Row}
 use Rattle.steps.specs.Rows.{reactive, instr_by, row_of}
-use Rattle.steps.specs.Steps.{Core, After, Next, Ended, store_of, promise_of, ending_by, halted_by, halted_of, goes, returned, Stepped, stepped, obey, step_of}
+use Rattle.steps.specs.Steps.{Ending, After, Next, Ended, store_of, tasks_of, promise_of, fault_by, halted_by, halted_of, goes, promised, returned, settled, Stepped, stepped, obey, step_of}
+use Rattle.react.specs.declared.Ran.{Ran}
 
 -- How a run ended; where it returned, also the ports and the number of instructions.
 pub record Shown : Type 0 where
@@ -27,12 +33,13 @@ pub record Shown : Type 0 where
   pub ports : List ℕ
   pub steps : ℕ
 
-abbrev pub shows : Ending → ℕ → List ℕ → Shown
-shows ending steps ports = record { ending = ending; ports = ports; steps = steps }
+abbrev pub shows : Result Ran Fault → List ℕ → Shown
+shows (Ok ran) ports = record { ending = Ok ran.halted; ports = ports; steps = ran.steps }
+shows (Err fault) ports = record { ending = Err fault; ports = ports; steps = 0 }
 
 abbrev pub shown_res : List ℕ → ℕ → Res (Halt Store) → Shown
-shown_res before steps (ok halt) = record { ending = E.Returned (halted_by halt); ports = halt.store.ports; steps = steps }
-shown_res before steps (bad fault) = record { ending = ending_by fault; ports = before; steps = 0 }
+shown_res before steps (ok halt) = record { ending = Ok (halted_by halt); ports = halt.store.ports; steps = steps }
+shown_res before steps (bad fault) = record { ending = Err (fault_by fault); ports = before; steps = 0 }
 
 -- `before`: what the ports hold after a fault
 abbrev pub shown : List ℕ → Run Store → Shown
@@ -40,26 +47,32 @@ shown before run = shown_res before run.tally.steps run.res
 
 -- what stands in the code's hands when its loop is left
 abbrev pub closes : List ℕ → Ending → ℕ → List ℕ → Shown
-closes before (E.Returned halted) steps ports = record { ending = E.Returned halted; ports = ports; steps = steps }
-closes before (E.Late task) steps ports = record { ending = E.Late task; ports = before; steps = 0 }
-closes before (E.Fault number) steps ports = record { ending = E.Fault number; ports = before; steps = 0 }
+closes before (Ok halted) steps ports = record { ending = Ok halted; ports = ports; steps = steps }
+closes before (Err fault) steps ports = record { ending = Err fault; ports = before; steps = 0 }
+
+abbrev pub closing : List ℕ → Result Ran Fault → List ℕ → Shown
+closing before (Ok ran) ports = closes before (Ok ran.halted) ran.steps ports
+closing before (Err fault) ports = closes before (Err fault) 0 ports
+
+-- what comes after an instruction, where the code goes on, returns or faults
+abbrev pub follows : Result (Option Halted) Fault → Core → After
+follows (Ok None) core = Next core
+follows (Ok (Some halted)) core = Ended (Ok halted)
+follows (Err fault) core = Ended (Err fault)
 
 -- a fault is shown as its ending
-fault-shown : (before : List ℕ) (fault : Fault) (steps : ℕ) (ports : List ℕ) → shown_res before steps (bad fault) ≡ closes before (ending_by fault) steps ports
-fault-shown before (Rattle.machine.specs.Instructions.late task) steps ports = refl
-fault-shown before wild steps ports = refl
-fault-shown before astray steps ports = refl
-fault-shown before Rattle.machine.specs.Instructions.clash steps ports = refl
+fault-shown : (before : List ℕ) (fault : I.Fault) (steps : ℕ) (ports : List ℕ) → shown_res before steps (bad fault) ≡ closes before (Err (fault_by fault)) steps ports
+fault-shown before fault steps ports = refl
 
 abbrev pub obeyed : ℕ → Tally
 obeyed steps = record { steps = steps; begun = 0; ended = 0 }
 
 module _ (b : Board) (aside : List ℕ) (before : List ℕ) where
-  abbrev at : ℕ → List Instr → ℕ → Option Future → Tally → Store → Shown
+  abbrev at : ℕ → List Instr → ℕ → M.Option I.Future → Tally → Store → Shown
   at most rest mode u n store = shown before (exec (store_ops b aside) b.begins b.code most rest mode u n store)
 
   -- of the tally only the steps are shown
-  steps-alone : (most : ℕ) (rest : List Instr) (mode : ℕ) (u : Option Future) (n o : Tally) (store : Store) → n.steps ≡ o.steps → at most rest mode u n store ≡ at most rest mode u o store
+  steps-alone : (most : ℕ) (rest : List Instr) (mode : ℕ) (u : M.Option I.Future) (n o : Tally) (store : Store) → n.steps ≡ o.steps → at most rest mode u n store ≡ at most rest mode u o store
   unfolding exec
   steps-alone zero rest mode u n o store same = refl
   steps-alone (suc most) [] mode u n o store same = refl
@@ -92,7 +105,7 @@ module _ (b : Board) (aside : List ℕ) (before : List ℕ) where
 
   -- what is left of a run from a core and its ports on
   abbrev pub runs : ℕ → ℕ → Core → List ℕ → Shown
-  runs most steps core ports = at most (drop core.pc b.code) core.mode (promise_of core) (obeyed steps) (store_of core ports)
+  runs most steps core ports = at most (drop core.pc b.code) core.mode (promise_of core.future) (obeyed steps) (store_of core.tasks ports)
 
   abbrev pub onward : ℕ → ℕ → After → List ℕ → Shown
   onward most steps (Next core) ports = runs most steps core ports
@@ -106,45 +119,45 @@ module _ (b : Board) (aside : List ℕ) (before : List ℕ) where
     behind = goes (suc core.pc) core
 
     abbrev started : Instr → Shown
-    started i = at (suc most) (i ∷ drop (suc core.pc) b.code) core.mode (promise_of core) (obeyed steps) (store_of core ports)
+    started i = at (suc most) (i ∷ drop (suc core.pc) b.code) core.mode (promise_of core.future) (obeyed steps) (store_of core.tasks ports)
 
     -- one instruction, and then the rest
     one : (i : Instr) → started i ≡ onward_from most (suc steps) (obey b aside i behind ports)
     unfolding exec
     one (nop marker) = refl
-    one (future pc delay) = go core.pledged
+    one (future pc delay) = go core.future
       where
-        go : (pledged : Bool) → shown before (only (Rattle.steps.specs.Steps.promise pledged core.next core.delay) (exec (store_ops b aside) b.begins b.code most (drop (suc core.pc) b.code) core.mode (some (record { pc = pc; delay = delay })) (step (obeyed steps)) (store_of core ports)))
-            ≡ onward most (suc steps) (Rattle.steps.specs.Steps.promised pc delay behind pledged) ports
-        go true = refl
-        go false = refl
-    one (call driver) = go ((store_ops b aside).drive driver (store_of core ports))
-      where
-        go : (res : Res Store)
-            → shown before (go_on res (λ after. exec (store_ops b aside) b.begins b.code most (drop (suc core.pc) b.code) core.mode (promise_of core) (counted 0 ((store_ops b aside).ending driver (store_of core ports)) (obeyed steps)) after))
-            ≡ onward_from most (suc steps) (Rattle.steps.specs.Steps.settled behind ports res)
-        go (ok after) = steps-alone most (drop (suc core.pc) b.code) core.mode (promise_of core) (counted 0 ((store_ops b aside).ending driver (store_of core ports)) (obeyed steps)) (obeyed (suc steps)) after refl
-        go (bad fault) = fault-shown before fault (suc steps) ports
-    one (release task) = go ((store_ops b aside).begin task (store_of core ports))
+        go : (held : Option Future) → shown before (only (promise_of held) (exec (store_ops b aside) b.begins b.code most (drop (suc core.pc) b.code) core.mode (some (record { pc = pc; delay = delay })) (step (obeyed steps)) (store_of core.tasks ports)))
+            ≡ onward most (suc steps) (promised pc delay behind held) ports
+        go (Some held) = refl
+        go None = refl
+    one (call driver) = go ((store_ops b aside).drive driver (store_of core.tasks ports))
       where
         go : (res : Res Store)
-            → shown before (go_on res (λ after. exec (store_ops b aside) b.begins b.code most (drop (suc core.pc) b.code) core.mode (promise_of core) (counted 1 0 (obeyed steps)) after))
-            ≡ onward_from most (suc steps) (Rattle.steps.specs.Steps.settled behind ports res)
-        go (ok after) = steps-alone most (drop (suc core.pc) b.code) core.mode (promise_of core) (counted 1 0 (obeyed steps)) (obeyed (suc steps)) after refl
+            → shown before (go_on res (λ after. exec (store_ops b aside) b.begins b.code most (drop (suc core.pc) b.code) core.mode (promise_of core.future) (counted 0 ((store_ops b aside).ending driver (store_of core.tasks ports)) (obeyed steps)) after))
+            ≡ onward_from most (suc steps) (settled behind ports res)
+        go (ok after) = steps-alone most (drop (suc core.pc) b.code) core.mode (promise_of core.future) (counted 0 ((store_ops b aside).ending driver (store_of core.tasks ports)) (obeyed steps)) (obeyed (suc steps)) after refl
         go (bad fault) = fault-shown before fault (suc steps) ports
-    one (iff guard other) = go ((store_ops b aside).test guard (store_of core ports))
+    one (release task) = go ((store_ops b aside).begin task (store_of core.tasks ports))
       where
-        go : (test : Bool) → at most (cond test (drop (suc core.pc) b.code) (drop other b.code)) core.mode (promise_of core) (step (obeyed steps)) (store_of core ports)
+        go : (res : Res Store)
+            → shown before (go_on res (λ after. exec (store_ops b aside) b.begins b.code most (drop (suc core.pc) b.code) core.mode (promise_of core.future) (counted 1 0 (obeyed steps)) after))
+            ≡ onward_from most (suc steps) (settled behind ports res)
+        go (ok after) = steps-alone most (drop (suc core.pc) b.code) core.mode (promise_of core.future) (counted 1 0 (obeyed steps)) (obeyed (suc steps)) after refl
+        go (bad fault) = fault-shown before fault (suc steps) ports
+    one (iff guard other) = go ((store_ops b aside).test guard (store_of core.tasks ports))
+      where
+        go : (test : Bool) → at most (cond test (drop (suc core.pc) b.code) (drop other b.code)) core.mode (promise_of core.future) (step (obeyed steps)) (store_of core.tasks ports)
             ≡ onward most (suc steps) (Next (cond test behind (goes other behind))) ports
         go true = refl
         go false = refl
     one (jump pc) = refl
-    one return = go core.pledged
+    one return = go core.future
       where
-        go : (pledged : Bool) → shown before (leave (Rattle.steps.specs.Steps.promise pledged core.next core.delay) (step (obeyed steps)) core.mode (store_of core ports))
-            ≡ onward most (suc steps) (Rattle.steps.specs.Steps.returned behind pledged) ports
-        go true = refl
-        go false = refl
+        go : (held : Option Future) → shown before (leave (promise_of held) (step (obeyed steps)) core.mode (store_of core.tasks ports))
+            ≡ onward most (suc steps) (returned behind held) ports
+        go (Some held) = refl
+        go None = refl
     one (switch target) = refl
 
     pub stepped-on : runs (suc most) steps core ports ≡ onward_from most (suc steps) (step_of b aside core ports)
@@ -152,7 +165,7 @@ module _ (b : Board) (aside : List ℕ) (before : List ℕ) where
     stepped-on = go (ltb core.pc (length b.code)) refl
       where
         go : (within : Bool) → ltb core.pc (length b.code) ≡ within
-            → runs (suc most) steps core ports ≡ onward_from most (suc steps) (cond within (obey b aside (get_or b.code core.pc (nop 0)) (goes (core.pc + 1) core) ports) (stepped (Ended (E.Fault 41)) ports))
+            → runs (suc most) steps core ports ≡ onward_from most (suc steps) (cond within (obey b aside (get_or b.code core.pc (nop 0)) (goes (core.pc + 1) core) ports) (stepped (Ended (Err F.Wild)) ports))
         go true within = rw (drop-cons b.code core.pc (nop 0) (ltb-true _ _ within), add-one core.pc) (one (get_or b.code core.pc (nop 0)))
         go false past = rw (drop_of_length-le b.code {i = core.pc} (ltb-false _ _ past)) refl
 
@@ -170,22 +183,18 @@ module _ (b : Board) (aside : List ℕ) (before : List ℕ) where
     pub ends : steps < n → (ending : Ending) (held : List ℕ) → stepped (Ended ending) held ≡ step_of b aside core ports → closes before ending (steps + 1) held ≡ whole
     ends within ending held same = sym (next within (Ended ending) held same)
 
-    pub over : n ≤ steps → (held : List ℕ) → closes before (E.Fault 41) 0 held ≡ whole
+    pub over : n ≤ steps → (held : List ℕ) → closes before (Err F.Wild) 0 held ≡ whole
     unfolding exec
     over done held = let count : n - steps ≡ 0 = omega arith in sym (left ∙ ap (λ (k : ℕ). runs k steps core ports) count)
 
-abbrev pub carries : ℕ → ℕ → Bool → ℕ → ℕ → ℕ → ℕ → ℕ → Core
-carries pc mode pledged next delay out waiting finished =
-    record { pc = pc; mode = mode; pledged = pledged; next = next; delay = delay; out = out; waiting = waiting; finished = finished }
-
 -- a return: with no future it is fault 42
-abbrev pub leaving : Core → Bool → Ending
-leaving core true = E.Returned (halted_of core)
-leaving core false = E.Fault 42
+abbrev pub leaving : Core → Option Future → Ending
+leaving core (Some held) = Ok (halted_of held core)
+leaving core None = Err F.Astray
 
-pub leaves : (pc : ℕ) (core : Core) (ports : List ℕ) (pledged : Bool) → stepped (Ended (leaving core pledged)) ports ≡ stepped (returned (goes pc core) pledged) ports
-leaves pc core ports true = refl
-leaves pc core ports false = refl
+pub leaves : (pc : ℕ) (core : Core) (ports : List ℕ) (held : Option Future) → stepped (Ended (leaving core held)) ports ≡ stepped (returned (goes pc core) held) ports
+leaves pc core ports (Some held) = refl
+leaves pc core ports None = refl
 
 -- ---- the same over rows: a turn of the loop obeys the row where the core stands, or faults behind the last one
 module _ (n : ℕ) (code drivers guards modes tasks aside before : List ℕ) (whole : Shown) (steps : ℕ) (core : Core) (ports : List ℕ)
@@ -205,23 +214,13 @@ module _ (n : ℕ) (code drivers guards modes tasks aside before : List ℕ) (wh
       → closes before ending (steps + 1) held ≡ whole
   row_ends row is here ending held same = ends (reactive n code drivers guards modes tasks) aside before whole n steps core ports left within ending held (same ∙ fetched row is here)
 
-  pub row-none : n ≤ core.pc → closes before (E.Fault 41) (steps + 1) ports ≡ whole
+  pub row-none : n ≤ core.pc → closes before (Err F.Wild) (steps + 1) ports ≡ whole
   unfolding step_of
-  row-none past = ends (reactive n code drivers guards modes tasks) aside before whole n steps core ports left within (E.Fault 41) ports (rw (length-tab, le-ltb _ _ past) refl)
+  row-none past = ends (reactive n code drivers guards modes tasks) aside before whole n steps core ports left within (Err F.Wild) ports (rw (length-tab, le-ltb _ _ past) refl)
 
 -- a reaction is a run from its first instruction, of as many instructions as the code holds
 abbrev pub standing : ℕ → ℕ → Store → Core
-standing mode pc store =
-    record {
-      pc = pc;
-      mode = mode;
-      pledged = false;
-      next = 0;
-      delay = 0;
-      out = store.out;
-      waiting = store.waiting;
-      finished = store.finished;
-    }
+standing mode pc store = record { pc = pc; mode = mode; future = None; tasks = tasks_of store }
 
 pub whole_run : (b : Board) (aside before : List ℕ) (n mode pc : ℕ) (store : Store) → length b.code ≡ n
     → runs b aside before n 0 (standing mode pc store) store.ports ≡ shown before (reaction b aside mode pc store)

@@ -1,24 +1,27 @@
 -- What the reader answers, step by step: length, version, table, bytes left over, references.
-use Rattle.std.specs.Prelude.{ℕ, ◌-◌, ◌≡◌, refl, Bool, true, false, List, [], ◌∷◌, eqb, length, drop}
-use Rattle.std.proofs.Common.{arith, sym, ◌∙◌, length-drop, eq-eqb, ne_eqb}
+use Rattle.std.specs.Prelude.{ℕ, ◌≡◌, refl, Bool, true, false, List, [], ◌∷◌, eqb, length, Result, Ok, Err}
+use Rattle.std.proofs.Common.{arith, sym, subst, ◌∙◌, eq-eqb, ne_eqb}
 use Rattle.std.proofs.Math.Path.{ap}
 use Rattle.std.proofs.Math.Bool.{cond}
 use Rattle.codec.specs.Readings.{Reading, got, no}
-use Rattle.codec.specs.Codecs.{Bytes}
+use Rattle.codec.specs.Codecs.{Bytes, Codec, Lawful}
+use Rattle.codec.proofs.Codecs.{bytes-behind}
 use Rattle.codec.specs.Numbers.{byte_get, byte, be}
 use Rattle.file.specs.Tables.{Table}
 use Rattle.file.specs.References.{good_references}
 use Rattle.file.specs.Files.{table, table_by, known_version, read, refused, judged, versioned, framed, decode}
-use Rattle.file.specs.declared.ReadAnswer.TheVariants.{Read}
 use Rattle.layout.specs.Plain.{struct_of, blank}
-use Rattle.fields.specs.Taking.{at, Takes}
+use Rattle.fields.specs.Taking.{Takes}
 use Rattle.referring.specs.Rows.{good_in}
 use Rattle.referring.specs.Agreement.{good-is}
 use Rattle.tables.specs.declared.Table.{Table as Plain}
-use Rattle.reading.specs.declared.Reading.{Reading as Returned}
-use Rattle.reading.specs.Readings.{reading_of}
+use Rattle.reading.specs.Readings.{result_of}
 use Rattle.reading.specs.Joining.{taken-got, taken-no}
 use Rattle.reading.specs.Tabled.{table-fine}
+
+-- what is left of bytes is bytes
+pub bytes-left : {A : Type 0} (c : Codec A) {bs rest : List ℕ} {a : A} → Lawful c → Bytes bs → c.get bs ≡ got a rest → Bytes rest
+bytes-left c {bs} {rest} {a} law h p = bytes-behind (c.put a) rest (subst Bytes (law.back bs a rest h p).0 h)
 
 -- ---- the length of the rest
 
@@ -67,26 +70,27 @@ judged-end : (t : Table) (rest : List ℕ) → length rest ≡ 0 → judged (got
 judged-end t [] h = refl
 judged-end t (b ∷ rest) h = absurd (omega arith)
 
-module _ {s : List ℕ} {next bad next' : ℕ} {l : Plain} (t : Takes s table (λ x old. struct_of x) (at 0 next blank) (at bad next' l)) where
-  pub judged-no : (bad ≡ 0 → ⊥) → reading_of (refused bad) ≡ reading_of (judged (table.get (drop next s)))
-  judged-no h = ap (λ (m : Reading Table). reading_of (judged m)) (sym (taken-no h t))
+module _ {bs : List ℕ} where
+  pub judged-no : {e : ℕ} → Takes table (λ x old. struct_of x) (got blank bs) (no e) → Err (record { number = e }) ≡ result_of (judged (table.get bs))
+  judged-no t = ap (λ (m : Reading Table). result_of (judged m)) (sym (taken-no t))
 
-  -- bytes left over
-  pub judged-over : bad ≡ 0 → (length s - next' ≡ 0 → ⊥) → reading_of (refused 22) ≡ reading_of (judged (table.get (drop next s)))
-  judged-over h g =
-      let r = taken-got h t in
-      ap reading_of (sym (ap judged r.reads ∙ judged-left r.part (drop next' s) (λ e. g (sym (length-drop next' s) ∙ e))))
+  module _ {rest : List ℕ} {l : Plain} (t : Takes table (λ x old. struct_of x) (got blank bs) (got l rest)) where
+    -- bytes left over
+    pub judged-over : (length rest ≡ 0 → ⊥) → Err (record { number = 22 }) ≡ result_of (judged (table.get bs))
+    judged-over h =
+        let r = taken-got t in
+        ap result_of (sym (ap judged r.reads ∙ judged-left r.part rest h))
 
-  module _ (whole : Bytes s) (h : bad ≡ 0) (end : length s - next' ≡ 0) where
-    referred : (b : Bool) → good_in l ≡ b → judged (table.get (drop next s)) ≡ cond b (read (taken-got h t).part) (refused 24)
-    referred b e =
-        let r = taken-got h t in
-        let x = r.part in
-        ap judged r.reads ∙ judged-end x (drop next' s) (length-drop next' s ∙ end)
-        ∙ ap (λ (z : Bool). cond z (read x) (refused 24)) (sym (good-is x (table-fine next x (drop next' s) whole r.reads)) ∙ ap good_in (sym r.holds) ∙ e)
+    module _ (whole : Bytes bs) (end : length rest ≡ 0) where
+      referred : (b : Bool) → good_in l ≡ b → judged (table.get bs) ≡ cond b (read (taken-got t).part) (refused 24)
+      referred b e =
+          let r = taken-got t in
+          let x = r.part in
+          ap judged r.reads ∙ judged-end x rest end
+          ∙ ap (λ (z : Bool). cond z (read x) (refused 24)) (sym (good-is x (table-fine x rest whole r.reads)) ∙ ap good_in (sym r.holds) ∙ e)
 
-    pub judged-bad : good_in l ≡ false → reading_of (refused 24) ≡ reading_of (judged (table.get (drop next s)))
-    judged-bad e = ap reading_of (sym (referred false e))
+      pub judged-bad : good_in l ≡ false → Err (record { number = 24 }) ≡ result_of (judged (table.get bs))
+      judged-bad e = ap result_of (sym (referred false e))
 
-    pub judged-good : good_in l ≡ true → ◌≡◌ {A = Returned} (record { answer = Read; table = l }) (reading_of (judged (table.get (drop next s))))
-    judged-good e = ap (λ (z : Plain). record { answer = Read; table = z }) (taken-got h t).holds ∙ ap reading_of (sym (referred true e))
+      pub judged-good : good_in l ≡ true → Ok l ≡ result_of (judged (table.get bs))
+      judged-good e = ap Ok (taken-got t).holds ∙ ap result_of (sym (referred true e))

@@ -1,25 +1,23 @@
 -- How the parts of a file join to the whole, and what a reading says of the bytes.
 use Rattle.std.specs.Prelude.{ℕ}
-use Rattle.std.proofs.Common.{arith, sym, ◌∙◌}
+use Rattle.std.proofs.Common.{sym, ◌∙◌}
 use Rattle.std.proofs.Math.Path.{◌≡◌, refl, ap}
 use mathlib.Core.List.{List}
-use Rattle.std.proofs.Math.ListN.{drop}
 use Rattle.codec.specs.Readings.{Reading, got, no, and_then}
 use Rattle.codec.specs.Codecs.{Codec}
 use Rattle.codec.specs.Sequences.{dep, dep_get}
-use Rattle.fields.specs.Taking.{Point, at, reached, taken, Takes}
-use Rattle.fields.specs.TakingLaws.{reached-on, reached-no}
+use Rattle.fields.specs.Taking.{taken, Takes}
 
 -- ---- a part behind three
 
 abbrev two : {A B : Type 0} → A → B → A × B
 two a b = (a, b)
 
-module _ {A B C D S : Type 0} {s : List ℕ} (a : Codec A) (b : Codec B) (c : Codec C) {d : Codec D} {f : A × (B × C) → S → S} {g : D → S → S} {p q r : Point S} where
-  pub takes-behind : Takes s (dep a (λ x. B × C) (λ x. dep b (λ y. C) (λ y. c))) f p q → Takes s d g q r
-      → Takes s (dep a (λ x. B × (C × D)) (λ x. dep b (λ y. C × D) (λ y. dep c (λ z. D) (λ z. d)))) (λ x l. g x.1.1.1 (f (x.0, (x.1.0, x.1.1.0)) l)) p r
+module _ {A B C D S : Type 0} (a : Codec A) (b : Codec B) (c : Codec C) {d : Codec D} {f : A × (B × C) → S → S} {g : D → S → S} {p q r : Reading S} where
+  pub takes-behind : Takes (dep a (λ x. B × C) (λ x. dep b (λ y. C) (λ y. c))) f p q → Takes d g q r
+      → Takes (dep a (λ x. B × (C × D)) (λ x. dep b (λ y. C × D) (λ y. dep c (λ z. D) (λ z. d)))) (λ x l. g x.1.1.1 (f (x.0, (x.1.0, x.1.1.0)) l)) p r
   unfolding taken dep dep_get
-  takes-behind t u = record { is = u.is ∙ ap (taken d g) t.is ∙ go (reached s p); inside = u.inside }
+  takes-behind t u = record { is = sym (go p) ∙ ap (taken d g) t.is ∙ u.is }
     where
       store : A × (B × (C × D)) → S → S
       store x l = g x.1.1.1 (f (x.0, (x.1.0, x.1.1.0)) l)
@@ -56,29 +54,29 @@ module _ {A B C D S : Type 0} {s : List ℕ} (a : Codec A) (b : Codec B) (c : Co
       go (got l bs) = in-first l (a.get bs)
       go (no n) = refl
 
--- ---- what a part that was taken from a place on says of the bytes there
+-- ---- what a part that was taken says of the bytes
 
 -- the part that was read, and the state with it
-pub record Got {A S : Type 0} (s : List ℕ) (c : Codec A) (store : A → S → S) (l : S) (next next' : ℕ) (l' : S) : Type 0 where
+pub record Got {A S : Type 0} (c : Codec A) (store : A → S → S) (l : S) (bs rest : List ℕ) (l' : S) : Type 0 where
   pub part : A
-  pub reads : c.get (drop next s) ≡ got part (drop next' s)
+  pub reads : c.get bs ≡ got part rest
   pub holds : l' ≡ store part l
 
-module _ {A S : Type 0} {s : List ℕ} {c : Codec A} {store : A → S → S} {l l' : S} {next bad' next' : ℕ} where
-  pub taken-got : bad' ≡ 0 → Takes s c store (at 0 next l) (at bad' next' l') → Got s c store l next next' l'
-  unfolding taken reached
-  taken-got h t = go (c.get (drop next s)) refl (sym (reached-on s bad' next' l' h) ∙ t.is)
+module _ {A S : Type 0} {c : Codec A} {store : A → S → S} {l : S} {bs : List ℕ} where
+  pub taken-got : {l' : S} {rest : List ℕ} → Takes c store (got l bs) (got l' rest) → Got c store l bs rest l'
+  unfolding taken
+  taken-got {l'} {rest} t = go (c.get bs) refl t.is
     where
-      go : (m : Reading A) → c.get (drop next s) ≡ m → got l' (drop next' s) ≡ and_then m (λ a rest. got (store a l) rest) → Got s c store l next next' l'
-      go (got a rest) e p =
-          let q : rest ≡ drop next' s = cc in
+      go : (m : Reading A) → c.get bs ≡ m → and_then m (λ a rest. got (store a l) rest) ≡ got l' rest → Got c store l bs rest l'
+      go (got a left) e p =
+          let q : left ≡ rest = cc in
           record { part = a; reads = e ∙ ap (λ (r : List ℕ). got a r) q; holds = cc }
-      go (no n) e p = absurd (let z : ◌≡◌ {A = ℕ} 0 1 = cc in omega arith)
+      go (no n) e p = absurd cc
 
-  pub taken-no : (bad' ≡ 0 → ⊥) → Takes s c store (at 0 next l) (at bad' next' l') → c.get (drop next s) ≡ no bad'
-  unfolding taken reached
-  taken-no h t = go (c.get (drop next s)) refl (sym (reached-no s bad' next' l' h) ∙ t.is)
+  pub taken-no : {e : ℕ} → Takes c store (got l bs) (no e) → c.get bs ≡ no e
+  unfolding taken
+  taken-no {e} t = go (c.get bs) refl t.is
     where
-      go : (m : Reading A) → c.get (drop next s) ≡ m → no bad' ≡ and_then m (λ a rest. got (store a l) rest) → c.get (drop next s) ≡ no bad'
-      go (got a rest) e p = absurd (let z : ◌≡◌ {A = ℕ} 0 1 = cc in omega arith)
-      go (no n) e p = let q : n ≡ bad' = cc in e ∙ ap no q
+      go : (m : Reading A) → c.get bs ≡ m → and_then m (λ a rest. got (store a l) rest) ≡ no e → c.get bs ≡ no e
+      go (got a rest) q p = absurd cc
+      go (no n) q p = let s : n ≡ e = cc in q ∙ ap no s

@@ -1,16 +1,18 @@
 // The reader of E-code files: the table that some bytes hold, or the number of the refusal.
-// Promises: any bytes are answered as the definition of the file says; beside a refusal stands the blank table.
+// Promises: any bytes are answered as the definition of the file says; a table, or the number of the refusal.
 // Builds on the readers of the records and on the tests of references.
 #![tactic(auto)]
 
-ghost use Rattle.std.specs.Prelude.{◌≡◌, drop};
-ghost use Rattle.file.specs.Files.{refused as refused_with, judged as judged_of, versioned as versioned_of, decode, table as table_of};
+ghost use Rattle.std.specs.Prelude.{◌≡◌};
+ghost use Rattle.codec.specs.Codecs.{Bytes};
+ghost use Rattle.file.specs.Answers.{read_number};
+ghost use Rattle.file.specs.Files.{judged as judged_of, versioned as versioned_of, decode, table as table_of};
 ghost use Rattle.layout.specs.Plain.{blank as blank_table};
 ghost use Rattle.referring.specs.Rows.{good_in};
-ghost use Rattle.file.specs.Answers.{read_number};
-ghost use Rattle.reading.specs.Readings.{reading_of, number_read};
+ghost use Rattle.reading.specs.Readings.{result_of, reading_of, number_read};
 
-use file::ReadAnswer;
+use fields::Cursor;
+use file::{ReadAnswer, Refused};
 use tables::Table;
 
 mod filling;
@@ -50,76 +52,71 @@ fn blank() -> Table
     }
 }
 
-fn refused(number: u8) -> Reading
-    ensures { result ≡ reading_of (refused_with number) }
-{
-    Reading {
-        answer: ReadAnswer::Refused(number),
-        table: blank(),
-    }
-}
-
 // Whether a table's numbers refer to what is there.
-fn good(t: Table) -> bool
-    ensures { result ≡ good_in t }
+#[tactic(auto, unfolding(referring::specs::Rows::good_in))]
+fn good(t: &Table) -> bool
+    ensures { result ≡ good_in t.now }
 {
-    if referring::good_drivers(
+    referring::good_drivers(
         &t.roles,
         &t.types,
         &t.task_rows,
         &t.driver_rows,
         t.tasks,
         t.drivers,
-    ) {
-        if referring::good_guards(&t.roles, &t.types, &t.guard_rows, t.guards) {
-            if referring::good_modes(&t.mode_rows, t.modes, t.instructions) {
-                return referring::good_code(
-                    &t.code,
-                    t.instructions,
-                    t.drivers,
-                    t.tasks,
-                    t.guards,
-                    t.modes,
-                );
-            }
-        }
-    }
-    false
+    ) && referring::good_guards(&t.roles, &t.types, &t.guard_rows, t.guards)
+        && referring::good_modes(&t.mode_rows, t.modes, t.instructions)
+        && referring::good_code(
+            &t.code,
+            t.instructions,
+            t.drivers,
+            t.tasks,
+            t.guards,
+            t.modes,
+        )
 }
 
-// The table from a place on: 22 and 23 come first, bytes left over are 22, last 24.
-fn judged(s: &[u8], next: usize) -> Reading
-    ensures { result ≡ reading_of (judged_of (table_of.get (drop next s.now))) }
+// The table behind the version: 22 and 23 come first, bytes left over are 22, last 24.
+fn judged(file: &mut Cursor) -> Result<Table, Refused>
+    requires { Bytes file.old.rest.now }
+    ensures { result ≡ result_of (judged_of (table_of.get file.old.rest.now)) }
 {
-    let begun = filling::table(s, next);
-    if begun.bad != 0 {
-        return refused(begun.bad);
+    let table = filling::table(file)?;
+    if !file.rest.is_empty() {
+        return Err(Refused { number: 22 });
     }
-    if fields::left(s, begun.next) != 0 {
-        return refused(22);
+    if good(&table) {
+        Ok(table)
+    } else {
+        Err(Refused { number: 24 })
     }
-    let t = begun.table;
-    if good(t) {
-        return Reading {
-            answer: ReadAnswer::Read,
-            table: t,
-        };
-    }
-    refused(24)
 }
 
 // The version, and the table behind it.
-fn versioned(s: &[u8], next: usize) -> Reading
-    ensures { result ≡ reading_of (versioned_of (drop next s.now)) }
+fn versioned(file: &mut Cursor) -> Result<Table, Refused>
+    requires { Bytes file.old.rest.now }
+    ensures { result ≡ result_of (versioned_of file.old.rest.now) }
 {
-    let version = fields::byte(s, 0, next);
-    if version.bad != 0 {
-        return refused(20);
+    let Ok(version) = file.byte() else {
+        return Err(Refused { number: 20 });
+    };
+    if version != 1 {
+        return Err(Refused { number: 21 });
     }
-    if version.value != 1 {
-        return refused(21);
+    judged(file)
+}
+
+fn decoded(bytes: &[u8]) -> Result<Table, Refused>
+    ensures { result ≡ result_of (decode bytes.now) }
+{
+    let mut file = Cursor { rest: bytes };
+    let Ok(size) = file.quad() else {
+        return Err(Refused { number: 20 });
+    };
+    if size as usize != file.rest.len() {
+        return Err(Refused { number: 20 });
     }
-    judged(s, version.next)
+    versioned(&mut file)
 }
 
 // The table that some bytes hold, or the number of the refusal.
@@ -127,12 +124,14 @@ pub fn read(bytes: &[u8]) -> Reading
     ensures answer { result ≡ reading_of (decode bytes.now) }
     ensures number { read_number result.answer ≡ number_read (decode bytes.now) }
 {
-    let size = fields::quad(bytes, 0, 0);
-    if size.bad != 0 {
-        return refused(20);
+    match decoded(bytes) {
+        Ok(table) => Reading {
+            answer: ReadAnswer::Read,
+            table,
+        },
+        Err(refused) => Reading {
+            answer: ReadAnswer::Refused(refused.number),
+            table: blank(),
+        },
     }
-    if cells::wide32(size.value) != fields::left(bytes, size.next) {
-        return refused(20);
-    }
-    versioned(bytes, size.next)
 }

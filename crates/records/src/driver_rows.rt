@@ -1,123 +1,85 @@
 // The drivers.
-ghost use Rattle.std.specs.Prelude.{◌≤◌, ◌<◌, ◌^◌};
+ghost use Rattle.std.specs.Prelude.{◌≤◌, ◌<◌, ◌^◌, IfOk};
+ghost use Rattle.codec.specs.Readings.{got};
 ghost use Rattle.codec.specs.Numbers.{be};
 ghost use Rattle.file.specs.Code.{updating, releasing, terminating, driver_rest, driver_of, driver as driver_codec, drivers as drivers_of};
 ghost use Rattle.layout.specs.Plain.{driver_cells};
 ghost use Rattle.layout.specs.Filling.{stored};
-ghost use Rattle.fields.specs.Taking.{at, Takes, counted};
+ghost use Rattle.fields.specs.Outcomes.{outcome};
+ghost use Rattle.fields.specs.Taking.{Takes, counted};
 ghost use Rattle.fields.specs.RunLaws.{RunsMany};
 ghost use Rattle.records.specs.Stores.{store_source, store_driver};
 
-use fields::{Counted, Got};
+use fields::Cursor;
+use file::Refused;
 
-fn sources(s: &[u8], bad: u8, next: usize, place: usize, many: u32, rows: &mut [u32]) -> Got
+fn sources(file: &mut Cursor, place: usize, many: u32, rows: &mut [u32]) -> Result<(), Refused>
     requires { (place < 2 ^ 40) × (many ≤ 8) }
-    ensures { RunsMany s.now (be 2) (store_source place) many (at bad next rows.old) (at result.bad result.next rows.new) }
+    ensures { RunsMany (be 2) (store_source place) many (got rows.old file.old.rest.now) (outcome (λ u. rows.new) result file.new.rest.now) }
 {
-    let n = cells::wide32(many);
-    let mut g = Got {
-        bad: bad,
-        next: next,
-    };
-    let mut k = 0;
-    while k < n {
-        let p = fields::pair(s, g.bad, g.next);
-        cells::put32(rows, place + k, p.value);
-        g = Got {
-            bad: p.bad,
-            next: p.next,
-        };
-        k += 1;
+    for k in 0..many as usize {
+        let port = file.pair()? as u32;
+        cells::put32(rows, place + k, port);
     }
-    g
+    Ok(())
 }
 
-fn update(s: &[u8], bad: u8, next: usize, place: usize, rows: &mut [u32]) -> Got
+#[tactic(auto, unfolding(codec::specs::Sequences::dep, codec::specs::Sequences::dep_get, codec::specs::Views::shape, codec::specs::Views::view, codec::specs::Views::view_get, fields::specs::Taking::taken, file::specs::Code::driver_rest, layout::specs::Filling::stored))]
+fn update(file: &mut Cursor, place: usize, rows: &mut [u32]) -> Result<(), Refused>
     requires { place < 2 ^ 39 }
-    ensures { Takes s.now (driver_rest updating) (λ x l. stored l place (driver_cells (driver_of updating x))) (at bad next rows.old) (at result.bad result.next rows.new) }
+    ensures { Takes (driver_rest updating) (λ x l. stored l place (driver_cells (driver_of updating x))) (got rows.old file.old.rest.now) (outcome (λ u. rows.new) result file.new.rest.now) }
 {
-    let p = fields::pair(s, bad, next);
-    let q = fields::pair(s, p.bad, p.next);
+    let source = file.pair()? as u32;
+    let target = file.pair()? as u32;
     cells::put32(rows, place, 3);
-    cells::put32(rows, place + 1, q.value);
+    cells::put32(rows, place + 1, target);
     cells::put32(rows, place + 2, 1);
-    cells::put32(rows, place + 3, p.value);
-    Got {
-        bad: q.bad,
-        next: q.next,
-    }
+    cells::put32(rows, place + 3, source);
+    Ok(())
 }
 
-fn release(s: &[u8], bad: u8, next: usize, place: usize, rows: &mut [u32]) -> Got
+fn release(file: &mut Cursor, place: usize, rows: &mut [u32]) -> Result<(), Refused>
     requires { place < 2 ^ 39 }
-    ensures { Takes s.now (driver_rest releasing) (λ x l. stored l place (driver_cells (driver_of releasing x))) (at bad next rows.old) (at result.bad result.next rows.new) }
+    ensures { Takes (driver_rest releasing) (λ x l. stored l place (driver_cells (driver_of releasing x))) (got rows.old file.old.rest.now) (outcome (λ u. rows.new) result file.new.rest.now) }
 {
-    let t = fields::pair(s, bad, next);
-    let n = fields::small_count(s, t.bad, t.next, 8);
+    let task = file.pair()? as u32;
+    let count = file.small_count(8)?;
     cells::put32(rows, place, 4);
-    cells::put32(rows, place + 1, t.value);
-    cells::put32(rows, place + 2, n.value);
-    sources(s, n.bad, n.next, place + 3, n.value, rows)
+    cells::put32(rows, place + 1, task);
+    cells::put32(rows, place + 2, count);
+    sources(file, place + 3, count, rows)
 }
 
-fn terminate(s: &[u8], bad: u8, next: usize, place: usize, rows: &mut [u32]) -> Got
+#[tactic(auto, unfolding(codec::specs::Sequences::dep, codec::specs::Sequences::dep_get, codec::specs::Views::shape, codec::specs::Views::view, codec::specs::Views::view_get, fields::specs::Taking::taken, file::specs::Code::driver_rest, layout::specs::Filling::stored))]
+fn terminate(file: &mut Cursor, place: usize, rows: &mut [u32]) -> Result<(), Refused>
     requires { place < 2 ^ 39 }
-    ensures { Takes s.now (driver_rest terminating) (λ x l. stored l place (driver_cells (driver_of terminating x))) (at bad next rows.old) (at result.bad result.next rows.new) }
+    ensures { Takes (driver_rest terminating) (λ x l. stored l place (driver_cells (driver_of terminating x))) (got rows.old file.old.rest.now) (outcome (λ u. rows.new) result file.new.rest.now) }
 {
-    let t = fields::pair(s, bad, next);
+    let task = file.pair()? as u32;
     cells::put32(rows, place, 5);
-    cells::put32(rows, place + 1, t.value);
-    Got {
-        bad: t.bad,
-        next: t.next,
-    }
+    cells::put32(rows, place + 1, task);
+    Ok(())
 }
 
-fn driver(s: &[u8], bad: u8, next: usize, place: usize, rows: &mut [u32]) -> Got
+fn driver(file: &mut Cursor, place: usize, rows: &mut [u32]) -> Result<(), Refused>
     requires { place < 2 ^ 39 }
-    ensures { Takes s.now driver_codec (λ d l. stored l place (driver_cells d)) (at bad next rows.old) (at result.bad result.next rows.new) }
+    ensures { Takes driver_codec (λ d l. stored l place (driver_cells d)) (got rows.old file.old.rest.now) (outcome (λ u. rows.new) result file.new.rest.now) }
 {
-    let t = fields::byte(s, bad, next);
-    if t.bad != 0 {
-        return Got {
-            bad: t.bad,
-            next: t.next,
-        };
-    }
-    let tag = t.value;
-    if tag == 3 {
-        return update(s, t.bad, t.next, place, rows);
-    }
-    if tag == 4 {
-        return release(s, t.bad, t.next, place, rows);
-    }
-    if tag == 5 {
-        return terminate(s, t.bad, t.next, place, rows);
-    }
-    Got {
-        bad: 23,
-        next: t.next,
+    match file.byte()? {
+        3 => update(file, place, rows),
+        4 => release(file, place, rows),
+        5 => terminate(file, place, rows),
+        _ => Err(Refused { number: 23 }),
     }
 }
 
-pub fn drivers(s: &[u8], bad: u8, next: usize, rows: &mut [u32]) -> Counted
-    ensures takes { Takes s.now drivers_of (counted store_driver) (at bad next (0, rows.old)) (at result.bad result.next (result.count, rows.new)) }
-    ensures count_bound { result.count ≤ 288 }
+pub fn drivers(file: &mut Cursor, rows: &mut [u32]) -> Result<u32, Refused>
+    ensures takes { Takes drivers_of (counted store_driver) (got (0, rows.old) file.old.rest.now) (outcome (λ n. (n, rows.new)) result file.new.rest.now) }
+    ensures count_bound { IfOk result (λ n. n ≤ 288) }
 {
-    let n = fields::count(s, bad, next, 288);
-    let many = cells::wide32(n.value);
-    let mut g = Got {
-        bad: n.bad,
-        next: n.next,
-    };
-    let mut k = 0;
-    while k < many {
-        g = driver(s, g.bad, g.next, k * 12, rows);
-        k += 1;
+    let count = file.count(288)?;
+    for k in 0..count as usize {
+        driver(file, k * 12, rows)?;
     }
-    Counted {
-        bad: g.bad,
-        next: g.next,
-        count: n.value,
-    }
+    Ok(count)
 }

@@ -1,5 +1,5 @@
 // The drivers, guards, modes and code of a file, read one after the other into the rows of a table's arrays.
-// Promises: each answers what its codec reads at a place and puts that into its row; a refusal that came before is handed on.
+// Promises: each reads what its codec reads at the front of the bytes that are left, and puts that into its row, or gives its refusal.
 // Builds on fields and on the layout.
 #![tactic(auto)]
 

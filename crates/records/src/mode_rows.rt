@@ -1,46 +1,37 @@
 // The modes.
-ghost use Rattle.std.specs.Prelude.{◌≤◌, ◌<◌};
+ghost use Rattle.std.specs.Prelude.{◌≤◌, ◌<◌, IfOk};
+ghost use Rattle.codec.specs.Readings.{got};
 ghost use Rattle.file.specs.Code.{mode as mode_of, modes as modes_of};
-ghost use Rattle.fields.specs.Taking.{at, Takes, counted};
+ghost use Rattle.fields.specs.Outcomes.{outcome};
+ghost use Rattle.fields.specs.Taking.{Takes, counted};
 ghost use Rattle.records.specs.Stores.{store_mode};
 
-use fields::{Counted, Got};
+use fields::{Cursor, put_name};
+use file::Refused;
 
-fn mode(s: &[u8], bad: u8, next: usize, k: usize, names: &mut [u8], rows: &mut [u32]) -> Got
+#[tactic(auto, unfolding(codec::specs::Sequences::dep, codec::specs::Sequences::dep_get, codec::specs::Views::shape, codec::specs::Views::view, codec::specs::Views::view_get, fields::specs::Taking::taken, file::specs::Code::mode, layout::specs::Filling::stored, crate::specs::Stores::store_mode))]
+fn mode(file: &mut Cursor, k: usize, names: &mut [u8], rows: &mut [u32]) -> Result<(), Refused>
     requires { k < 65536 }
-    ensures { Takes s.now mode_of (store_mode k) (at bad next (names.old, rows.old)) (at result.bad result.next (names.new, rows.new)) }
+    ensures { Takes mode_of (store_mode k) (got (names.old, rows.old) file.old.rest.now) (outcome (λ u. (names.new, rows.new)) result file.new.rest.now) }
 {
-    let a = fields::name(s, bad, next, k * 33, names);
-    let f = fields::flag(s, a.bad, a.next);
-    let p = fields::time(s, f.bad, f.next);
-    let b = fields::quad(s, p.bad, p.next);
-    cells::put32(rows, k * 3, f.value);
-    cells::put32(rows, k * 3 + 1, p.value);
-    cells::put32(rows, k * 3 + 2, b.value);
-    Got {
-        bad: b.bad,
-        next: b.next,
-    }
+    let name = file.name()?;
+    let start = file.flag()?;
+    let period = file.time()?;
+    let begin = file.quad()?;
+    put_name(names, k * 33, name);
+    cells::put32(rows, k * 3, start);
+    cells::put32(rows, k * 3 + 1, period);
+    cells::put32(rows, k * 3 + 2, begin);
+    Ok(())
 }
 
-pub fn modes(s: &[u8], bad: u8, next: usize, names: &mut [u8], rows: &mut [u32]) -> Counted
-    ensures takes { Takes s.now modes_of (counted store_mode) (at bad next (0, (names.old, rows.old))) (at result.bad result.next (result.count, (names.new, rows.new))) }
-    ensures count_bound { result.count ≤ 8 }
+pub fn modes(file: &mut Cursor, names: &mut [u8], rows: &mut [u32]) -> Result<u32, Refused>
+    ensures takes { Takes modes_of (counted store_mode) (got (0, (names.old, rows.old)) file.old.rest.now) (outcome (λ n. (n, (names.new, rows.new))) result file.new.rest.now) }
+    ensures count_bound { IfOk result (λ n. n ≤ 8) }
 {
-    let n = fields::count(s, bad, next, 8);
-    let many = cells::wide32(n.value);
-    let mut g = Got {
-        bad: n.bad,
-        next: n.next,
-    };
-    let mut k = 0;
-    while k < many {
-        g = mode(s, g.bad, g.next, k, names, rows);
-        k += 1;
+    let count = file.count(8)?;
+    for k in 0..count as usize {
+        mode(file, k, names, rows)?;
     }
-    Counted {
-        bad: g.bad,
-        next: g.next,
-        count: n.value,
-    }
+    Ok(count)
 }

@@ -1,12 +1,11 @@
 -- Refusals 4 to 12 by cases: texts as they are written, with the mark # where the refusal stands.
-use Rattle.std.specs.Prelude.{ℕ, List, [], ◌∷◌, Bool, true, false, cond, ◌&&◌, eqb, T}
+use Rattle.std.specs.Prelude.{ℕ, List, [], ◌∷◌, Bool, true, false, cond, ◌&&◌, eqb, T, Ok, Err}
 use Prim.Native.String.{String}
 use Rattle.model.specs.Bytes.{bytes}
 use Rattle.text.specs.declared.Item.{Item}
 use Rattle.text.specs.Items.{refused_in}
 use Rattle.text.specs.Cases.{mark_in, unmarked, free}
-use Rattle.refusals.specs.declared.Verdict.{Verdict}
-use Rattle.refusals.specs.declared.Verdict.TheVariants.{Fine, No}
+use Rattle.refusals.specs.Verdicts.{Verdict}
 use Rattle.refusals.specs.Checks.{is_fine}
 use Rattle.refusals.specs.Reading.{read_items, answer_by}
 
@@ -15,8 +14,8 @@ pub data Case : Type 0 where
   passes : String → Case
 
 abbrev pub is_no : ℕ → ℕ → Verdict → Bool
-is_no number at Fine = false
-is_no number at (No other there) = eqb other number && eqb there at
+is_no number at (Ok fine) = false
+is_no number at (Err r) = eqb r.number number && eqb r.at at
 
 -- free of 2 and 3, and of this answer
 abbrev pub refused_by : ℕ → ℕ → List ℕ → List Item → Bool

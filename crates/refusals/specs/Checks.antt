@@ -1,7 +1,6 @@
 -- Document 01, 'When the compiler says no': the leftmost of 4 to 12, at equal offsets the lowest number.
-use Rattle.std.specs.Prelude.{ℕ, ◌≤◌, ◌<◌, ◌≡◌, List, [], ◌∷◌, Bool, true, false, cond, ◌⊎◌}
-use Rattle.refusals.specs.declared.Verdict.{Verdict}
-use Rattle.refusals.specs.declared.Verdict.TheVariants.{Fine, No}
+use Rattle.std.specs.Prelude.{ℕ, ◌≤◌, ◌<◌, ◌≡◌, List, [], ◌∷◌, Bool, true, false, cond, ◌⊎◌, Ok, Err}
+use Rattle.refusals.specs.Verdicts.{Verdict, Fine, No}
 
 -- a rule of the table at a place of the text: its number, its offset, and whether it is broken there
 pub record Check : Type 0 where
@@ -24,8 +23,8 @@ Precedes number at other there = (at < there) ⊎ ((at ≡ there) × (number ≤
 
 -- what the answer must be, in whatever order the rules are listed
 abbrev pub Leftmost : List Check → Verdict → Type 0
-Leftmost cs Fine = (number at : ℕ) → Cause cs number at → ⊥
-Leftmost cs (No number at) = Cause cs number at × ((other there : ℕ) → Cause cs other there → Precedes number at other there)
+Leftmost cs (Ok fine) = (number at : ℕ) → Cause cs number at → ⊥
+Leftmost cs (Err r) = Cause cs r.number r.at × ((other there : ℕ) → Cause cs other there → Precedes r.number r.at other there)
 
 -- the first that is broken, of rules in text order
 unfoldable pub first : List Check → Verdict
@@ -36,5 +35,5 @@ first (c ∷ cs) =
 
 -- whether nothing was refused
 abbrev pub is_fine : Verdict → Bool
-is_fine Fine = true
-is_fine (No number at) = false
+is_fine (Ok fine) = true
+is_fine (Err r) = false

@@ -1,8 +1,7 @@
 -- Laws of checks: no second answer is leftmost; and how a list of rules answers part by part.
-use Rattle.std.specs.Prelude.{ℕ, ◌≡◌, refl, List, [], ◌∷◌, ◌++◌, Bool, true, false, cond}
+use Rattle.std.specs.Prelude.{ℕ, ◌≡◌, refl, List, [], ◌∷◌, ◌++◌, Bool, true, false, cond, Ok, Err}
 use Rattle.std.proofs.Common.{sym, ap, ◌∙◌, inl, inr, arith}
-use Rattle.refusals.specs.declared.Verdict.{Verdict}
-use Rattle.refusals.specs.declared.Verdict.TheVariants.{Fine, No}
+use Rattle.refusals.specs.Verdicts.{Verdict, Fine, No}
 use Rattle.refusals.specs.Checks.{Check, Precedes, Leftmost, first, is_fine}
 
 -- ---- no second answer fits
@@ -14,19 +13,19 @@ one_place n a m b (inr h) (inl k) = absurd (omega arith)
 one_place n a m b (inr h) (inr k) = (omega arith, omega arith)
 
 pub leftmost-unique : (cs : List Check) (v w : Verdict) → Leftmost cs v → Leftmost cs w → v ≡ w
-leftmost-unique cs Fine Fine p q = refl
-leftmost-unique cs Fine (No m b) p q = absurd (p m b q.0)
-leftmost-unique cs (No n a) Fine p q = absurd (q n a p.0)
-leftmost-unique cs (No n a) (No m b) p q =
-    let e = one_place n a m b (p.1 m b q.0) (q.1 n a p.0) in
+leftmost-unique cs (Ok x) (Ok y) p q = refl
+leftmost-unique cs (Ok x) (Err r) p q = absurd (p r.number r.at q.0)
+leftmost-unique cs (Err r) (Ok y) p q = absurd (q r.number r.at p.0)
+leftmost-unique cs (Err r) (Err other) p q =
+    let e = one_place r.number r.at other.number other.at (p.1 other.number other.at q.0) (q.1 r.number r.at p.0) in
     rw (e.0, e.1)
 
 -- ---- part by part
 
 -- the first answer, or where it is fine the second
 abbrev pub or_else : Verdict → Verdict → Verdict
-or_else Fine w = w
-or_else (No number at) w = No number at
+or_else (Ok fine) w = w
+or_else (Err r) w = Err r
 
 pub first-append : (cs ds : List Check) → first (cs ++ ds) ≡ or_else (first cs) (first ds)
 unfolding first
@@ -42,8 +41,8 @@ pub first_on : (cs ds : List Check) → first cs ≡ Fine → first (cs ++ ds) �
 first_on cs ds e = first-append cs ds ∙ rw e
 
 or-stop : (v w : Verdict) → is_fine v ≡ false → or_else v w ≡ v
-or-stop Fine w e = let z : ◌≡◌ {A = ℕ} 0 1 = cc in absurd (omega arith)
-or-stop (No number at) w e = refl
+or-stop (Ok fine) w e = let z : ◌≡◌ {A = ℕ} 0 1 = cc in absurd (omega arith)
+or-stop (Err r) w e = refl
 
 -- one in the first part decides
 pub first-stop : (cs ds : List Check) → is_fine (first cs) ≡ false → first (cs ++ ds) ≡ first cs
@@ -59,8 +58,8 @@ part-goes {v} {w} cs ds e f g = g ∙ sym (first_on cs ds (sym e ∙ f))
 -- ---- what a fine answer says of its parts
 
 fine-both : (v w : Verdict) → or_else v w ≡ Fine → (v ≡ Fine) × (w ≡ Fine)
-fine-both Fine w e = (refl, e)
-fine-both (No number at) w e = let z : ◌≡◌ {A = ℕ} 0 1 = cc in absurd (omega arith)
+fine-both (Ok fine) w e = (refl, e)
+fine-both (Err r) w e = let z : ◌≡◌ {A = ℕ} 0 1 = cc in absurd (omega arith)
 
 pub fine-parts : (cs ds : List Check) → first (cs ++ ds) ≡ Fine → (first cs ≡ Fine) × (first ds ≡ Fine)
 fine-parts cs ds e = fine-both (first cs) (first ds) (sym (first-append cs ds) ∙ e)

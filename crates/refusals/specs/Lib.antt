@@ -1,3 +1,4 @@
+pub mod Verdicts
 pub mod Checks
 pub mod Names
 pub mod Refusals

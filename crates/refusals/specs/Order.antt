@@ -1,8 +1,7 @@
 -- Where the rules stand in text order, the first that is broken is the leftmost. Keys put offsets first, then numbers.
-use Rattle.std.specs.Prelude.{ℕ, ◌+◌, ◌*◌, ◌≤◌, ◌≡◌, refl, List, [], ◌∷◌, ◌++◌, Bool, true, false, cond, ltb}
+use Rattle.std.specs.Prelude.{ℕ, ◌+◌, ◌*◌, ◌≤◌, ◌≡◌, refl, List, [], ◌∷◌, ◌++◌, Bool, true, false, cond, ltb, Ok, Err}
 use Rattle.std.proofs.Common.{ap, inl, inr, ⊎_elim, arith, ltb-true, ltb-false}
-use Rattle.refusals.specs.declared.Verdict.{Verdict}
-use Rattle.refusals.specs.declared.Verdict.TheVariants.{Fine, No}
+use Rattle.refusals.specs.Verdicts.{Verdict, No}
 use Rattle.refusals.specs.Checks.{Check, check, Cause, Precedes, Leftmost, first}
 
 abbrev pub key : ℕ → ℕ → ℕ
@@ -48,8 +47,8 @@ not-both p q = let z : ◌≡◌ {A = ℕ} 0 1 = cc in omega arith
 -- a rule that is kept adds no cause
 kept : (c : Check) (cs : List Check) (v : Verdict) → c.broken ≡ false → Leftmost cs v → Leftmost (c ∷ cs) v
 unfolding Cause
-kept c cs Fine e r = λ n a. ⊎_elim (λ p. not-both e (ap (λ (c : Check). c.broken) p)) (r n a)
-kept c cs (No n a) e r = (inr r.0, λ m b. ⊎_elim (λ p. absurd (not-both e (ap (λ (c : Check). c.broken) p))) (r.1 m b))
+kept c cs (Ok fine) e r = λ n a. ⊎_elim (λ p. not-both e (ap (λ (c : Check). c.broken) p)) (r n a)
+kept c cs (Err r) e l = (inr l.0, λ m b. ⊎_elim (λ p. absurd (not-both e (ap (λ (c : Check). c.broken) p))) (l.1 m b))
 
 pub chain-leftmost : (lo hi : ℕ) (cs : List Check) → Chain lo cs hi → Leftmost cs (first cs)
 unfolding first Cause

@@ -10,7 +10,7 @@ use Rattle.text.specs.Productions.{truth_at, minus_at, number_at, named_at, lite
 use Rattle.text.specs.Items.{refused_at, section_of, portion_of, part_of, declaration_at, section_at, module_body_at, task_port_at, portion_at, task_body_at, head_at, part_at, mode_body_at, target_at, act_at, finish_at, item_at, items_in, items_of}
 use Rattle.text.specs.declared.Item.{Item}
 use Rattle.text.specs.Words.{value_from}
-use Rattle.refusals.specs.declared.Verdict.{Verdict}
+use Rattle.refusals.specs.Verdicts.{Verdict}
 use Rattle.refusals.specs.Checks.{first}
 use Rattle.refusals.specs.Names.{find, named, count, types}
 use Rattle.refusals.specs.Refusals.{divides_all, among}

@@ -4,7 +4,7 @@ use Rattle.text.specs.declared.Item.{Item}
 use Rattle.text.specs.Items.{items_of}
 use Rattle.model.specs.Modules.{Module}
 use Rattle.refusals.specs.declared.Row.{Row}
-use Rattle.refusals.specs.declared.Verdict.{Verdict}
+use Rattle.refusals.specs.Verdicts.{Verdict}
 use Rattle.refusals.specs.Checks.{Check, first}
 use Rattle.refusals.specs.Declarations.{rows_after}
 use Rattle.refusals.specs.Rules.{Env, nothing, rules_from, env_after}

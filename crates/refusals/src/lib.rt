@@ -3,6 +3,8 @@
 // Builds on text and model.
 #![tactic(auto)]
 
+use text::Refusal;
+
 // A declared name: where it stands in the text, and what it means.
 // scope: 0 the module's, k + 1 the ports of task k.
 // sort: 0 constant, 1 sensor, 2 actuator, 3 task, 4 mode, 5 input, 6 output, 7 none.
@@ -18,9 +20,5 @@ pub struct Row {
     pub value: usize,
 }
 
-// The answer of the rules: none is broken, or the number and the place of the leftmost that is.
-#[derive(Clone, Copy)]
-pub enum Verdict {
-    Fine,
-    No { number: u8, at: usize },
-}
+// The answer of the rules: none is broken, or the leftmost that is.
+pub type Verdict = Result<(), Refusal>;

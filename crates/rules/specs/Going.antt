@@ -1,5 +1,6 @@
 -- Where the pass stands in a text, and its turns: an item is judged, and what it declares and does is entered.
-use Rattle.std.specs.Prelude.{◌≡◌, ℕ, ◌+◌, ◌<◌, ◌≤◌, Bool, true, false, List, [], ◌∷◌, ◌++◌, map, length}
+use Rattle.std.specs.Prelude.{◌≡◌, ℕ, ◌+◌, ◌<◌, ◌≤◌, Bool, true, false, List, [], ◌∷◌, ◌++◌, map, length, Result, Ok, Err, is_err, IsErr, IsErrAnd}
+use Rattle.std.specs.Result.{result_and}
 use Rattle.std.proofs.Common.{arith, ap, ◌∙◌}
 use Rattle.std.proofs.Math.Path.{refl, sym}
 use mathlib.Core.List.{append-nil}
@@ -7,13 +8,13 @@ use Rattle.text.specs.declared.State.{State}
 use Rattle.text.specs.declared.State.TheVariants as Q
 use Rattle.text.specs.declared.Item.{Item}
 use Rattle.text.specs.declared.ReadItem.{ReadItem}
+use Rattle.text.specs.declared.Refusal.{Refusal}
 use Rattle.text.specs.Items.{item_at, goes, items_from, items_of}
 use Rattle.text.proofs.ItemsLaws.{from_on, from-stop}
 use Rattle.text.proofs.Advance.{item-ahead}
 use Rattle.model.specs.Rooms.{activity_room}
 use Rattle.refusals.specs.declared.Row.{Row}
-use Rattle.refusals.specs.declared.Verdict.{Verdict}
-use Rattle.refusals.specs.declared.Verdict.TheVariants.{Fine, No}
+use Rattle.refusals.specs.Verdicts.{Verdict, Fine}
 use Rattle.refusals.specs.Checks.{first, is_fine}
 use Rattle.refusals.specs.ChecksLaws.{first_on, first-stop}
 use Rattle.refusals.specs.NamesLaws.{Sorted, rows-sorted}
@@ -24,6 +25,7 @@ use Rattle.refusals.specs.Texts.{declared_by, verdict_of}
 use Rattle.accepted.specs.Steps.{Comes, item-comes}
 use Rattle.accepted.specs.RowsFit.{RowsFit, fitting}
 use Rattle.names.specs.Tables.{rows_in}
+use Rattle.judging.specs.Asking.{asked-none, asked-all}
 use Rattle.names.specs.Index.{empty_table, table_in, Declared}
 use Rattle.meanings.specs.Held.{rows_of, held_row}
 use Rattle.meanings.specs.declared.declaring.Declaration.{Declaration}
@@ -35,7 +37,6 @@ use Rattle.noting.specs.Rowed.{Rowed, rowed-first, rowed-size, rows-room, joins,
 use Rattle.noting.specs.Drafted.{Drafted, drafted-on, drafted-first}
 use Rattle.targets.specs.AheadLaws.{goes-plain, stop-quiet}
 use Rattle.rules.specs.Meets.{Meets}
-use Rattle.rules.specs.declared.Judged.{Judged}
 use Rattle.rules.specs.declared.Turn.{Turn}
 
 -- the names that a text declares
@@ -62,21 +63,23 @@ pub record Answered (s : List ℕ) (verdict : Verdict) (cells : List ℕ) (n : �
   pub leftmost : verdict ≡ verdict_of s
   pub names : verdict ≡ Fine → Tabled s (all_names s) cells n
 
--- a turn of the pass: it stands behind what was read, which is further on, or it answers
-abbrev pub TurnedBy : Bool → List ℕ → ℕ → ReadItem → Verdict → ℕ → Known → List ℕ → List ℕ → List ℕ → List ℕ → Type 0
-TurnedBy true s from read verdict n known cells rates tasks aims = (from < read.next) × Going s read.state read.next cells n known rates tasks aims
-TurnedBy false s from read verdict n known cells rates tasks aims = Answered s verdict cells n
+-- the pass has answered: with the number of the names, or with the leftmost that is broken
+abbrev pub Ends : List ℕ → Result ℕ Refusal → List ℕ → Type 0
+Ends s (Ok n) cells = Answered s Fine cells n
+Ends s (Err r) cells = Answered s (Err r) cells 0
 
-abbrev pub Turned : List ℕ → ℕ → ReadItem → Turn → List ℕ → List ℕ → List ℕ → List ℕ → Type 0
-Turned s from read turn cells rates tasks aims = TurnedBy turn.on s from read turn.verdict turn.rows turn.known cells rates tasks aims
+-- a turn of the pass over what was read: where others come behind it, the pass stands there, which is further on; where none do, it has answered
+abbrev pub TurnedBy : Bool → List ℕ → ℕ → ReadItem → Turn → List ℕ → List ℕ → List ℕ → List ℕ → Type 0
+TurnedBy true s from read turn cells rates tasks aims = (from < read.next) × Going s read.state read.next cells turn.rows turn.known rates tasks aims
+TurnedBy false s from read turn cells rates tasks aims = Ends s (Ok turn.rows) cells
 
--- the turn of an item that breaks this: it goes on where nothing is broken
-abbrev pub turn_of : ℕ → Verdict → Known → Turn
-turn_of n verdict next = record { on = is_fine verdict; verdict = verdict; rows = n; known = next }
+abbrev pub Turned : List ℕ → ℕ → ReadItem → Result Turn Refusal → List ℕ → List ℕ → List ℕ → List ℕ → Type 0
+Turned s from read (Ok turn) cells rates tasks aims = TurnedBy (goes read.item) s from read turn cells rates tasks aims
+Turned s from read (Err r) cells rates tasks aims = Ends s (Err r) cells
 
--- the turn behind which nothing comes
-abbrev pub stop_of : ℕ → Verdict → Known → Turn
-stop_of n verdict known = record { on = false; verdict = verdict; rows = n; known = known }
+-- the turn of an item that breaks this, or else leaves so many names and this known
+abbrev pub turn_of : ℕ → Verdict → Known → Result Turn Refusal
+turn_of n verdict next = result_and verdict (Ok (record { rows = n; known = next }))
 
 -- what an item breaks, what is known behind it, and what is laid ready, by what is known before it
 pub record Acts (s : List ℕ) (env : Env) (item : Item) (rows : List Row) (verdict : Verdict) (known next : Known) (rates tasks aims rates_then tasks_then aims_then : List ℕ) : Type 0 where
@@ -91,14 +94,14 @@ pub record Enters (s cells : List ℕ) (n : ℕ) (item : Item) (cells_then : Lis
   pub entered : Entered s cells n declaration cells_then count
 
 -- a turn tells what an item breaks and what is known behind it; what the item declares is entered where it breaks nothing
-pub record Told (s cells : List ℕ) (n : ℕ) (item : Item) (verdict : Verdict) (next : Known) (turn : Turn) (cells_then : List ℕ) : Type 0 where
+pub record Told (s cells : List ℕ) (n : ℕ) (item : Item) (verdict : Verdict) (next : Known) (turn : Result Turn Refusal) (cells_then : List ℕ) : Type 0 where
   pub count : ℕ
   pub tells : turn ≡ turn_of count verdict next
   pub broken : is_fine verdict ≡ false → (cells_then ≡ cells) × (count ≡ n)
   pub entered : verdict ≡ Fine → Enters s cells n item cells_then count
 
 -- an item that declares nothing leaves the table as it is
-pub told-plain : {s cells : List ℕ} {n : ℕ} {item : Item} {verdict : Verdict} {next : Known} {turn : Turn} → turn ≡ turn_of n verdict next → declares s (rows_in cells n) item ≡ [] → Told s cells n item verdict next turn cells
+pub told-plain : {s cells : List ℕ} {n : ℕ} {item : Item} {verdict : Verdict} {next : Known} {turn : Result Turn Refusal} → turn ≡ turn_of n verdict next → declares s (rows_in cells n) item ≡ [] → Told s cells n item verdict next turn cells
 told-plain {n = n} e q =
     record {
       count = n;
@@ -107,25 +110,25 @@ told-plain {n = n} e q =
       entered = λ f. record { declaration = Nothing; declared = rw q; entered = (refl, refl) };
     }
 
-module _ {s cells : List ℕ} {n : ℕ} {item : Item} {verdict : Verdict} {next : Known} {turn : Turn} where
+module _ {s cells : List ℕ} {n : ℕ} {item : Item} {verdict : Verdict} {next : Known} {turn : Result Turn Refusal} where
   -- what breaks a rule declares nothing
-  pub told-broken : is_fine verdict ≡ false → turn ≡ stop_of n verdict next → Told s cells n item verdict next turn cells
-  told-broken f e =
+  pub told-broken : {r : Refusal} → IsErr turn × IsErrAnd turn (λ e. e ≡ r) → Err r ≡ verdict → Told s cells n item verdict next turn cells
+  told-broken h p =
       record {
         count = n;
-        tells = e ∙ rw f;
+        tells = asked-none _ h p;
         broken = λ g. (refl, refl);
-        entered = λ fine. let z : ◌≡◌ {A = ℕ} 0 1 = cc (sym (ap is_fine fine) ∙ f) in absurd (omega arith);
+        entered = λ fine. let z : ◌≡◌ {A = ℕ} 0 1 = cc (p ∙ fine) in absurd (omega arith);
       }
 
   -- what breaks none enters what it declares
-  pub told-new : {row : Row} {cells_then : List ℕ} → verdict ≡ Fine → turn ≡ turn_of turn.rows Fine next → Declared s cells n row cells_then turn.rows → rows_of (One row) ≡ map held_row (declares s (rows_in cells n) item)
+  pub told-new : {u : Unit {0}} {row : Row} {cells_then : List ℕ} (count : ℕ) → Ok u ≡ verdict → turn ≡ Ok (record { rows = count; known = next }) → Declared s cells n row cells_then count → rows_of (One row) ≡ map held_row (declares s (rows_in cells n) item)
       → Told s cells n item verdict next turn cells_then
-  told-new {row} fine e d q =
+  told-new {row = row} count fine e d q =
       record {
-        count = turn.rows;
-        tells = e ∙ rw fine;
-        broken = λ f. let z : ◌≡◌ {A = ℕ} 0 1 = cc (sym (ap is_fine fine) ∙ f) in absurd (omega arith);
+        count = count;
+        tells = e ∙ asked-all fine;
+        broken = λ f. let z : ◌≡◌ {A = ℕ} 0 1 = cc (ap is_fine fine ∙ f) in absurd (omega arith);
         entered = λ f. record { declaration = One row; declared = q; entered = d };
       }
 
@@ -195,8 +198,8 @@ module _ {s : List ℕ} {state : State} {at : ℕ} {cells : List ℕ} {n : ℕ} 
       by false k = told ∙ sym (g.left ∙ rw (from-stop s state at g.within k) (first-stop (rules s (all_names s) g.env item) _ stops))
 
   -- a broken rule is the answer
-  pub goes-out : (v : Verdict) → v ≡ first (rules s (all_names s) g.env read.item) → is_fine v ≡ false → Answered s v cells n
-  goes-out v e f = record { leftmost = item-first v e f; names = λ q. let z : ◌≡◌ {A = ℕ} 0 1 = cc (ap is_fine q) in absurd (omega arith) }
+  pub goes-out : (v : Verdict) (count : ℕ) → v ≡ first (rules s (all_names s) g.env read.item) → is_fine v ≡ false → Answered s v cells count
+  goes-out v count e f = record { leftmost = item-first v e f; names = λ q. let z : ◌≡◌ {A = ℕ} 0 1 = cc (ap is_fine q) in absurd (omega arith) }
 
   -- no rule is broken up to the end
   pub goes-stop : first (rules s (all_names s) g.env read.item) ≡ Fine → goes read.item ≡ false → Answered s Fine cells n
@@ -239,18 +242,18 @@ module _ {s : List ℕ} {state : State} {at : ℕ} {cells : List ℕ} {n : ℕ} 
       )
 
   -- the turn of an item behind which others come
-  pub goes-told : {verdict : Verdict} {next : Known} {turn : Turn} {cells_then rates_then tasks_then aims_then : List ℕ} → Acts s g.env read.item (rows_in cells n) verdict known next rates tasks aims rates_then tasks_then aims_then
+  pub goes-told : {verdict : Verdict} {next : Known} {turn : Result Turn Refusal} {cells_then rates_then tasks_then aims_then : List ℕ} → Acts s g.env read.item (rows_in cells n) verdict known next rates tasks aims rates_then tasks_then aims_then
       → goes read.item ≡ true → Told s cells n read.item verdict next turn cells_then → Turned s at read turn cells_then rates_then tasks_then aims_then
   goes-told {verdict} {next} {turn} {cells_then} {rates_then} {tasks_then} {aims_then} a k t = rw t.tells (by verdict refl)
     where
-      by : (v : Verdict) → verdict ≡ v → TurnedBy (is_fine v) s at read v t.count next cells_then rates_then tasks_then aims_then
-      by Fine e = goes_on a.laid (sym a.judged ∙ e) k (t.entered e) a.noted
-      by (No number place) e = let same = t.broken (ap is_fine e) in rw (same.0, same.1) (goes-out (No number place) (sym e ∙ a.judged) refl)
+      by : (v : Verdict) → verdict ≡ v → Turned s at read (turn_of t.count v next) cells_then rates_then tasks_then aims_then
+      by (Ok fine) e = rw k (goes_on a.laid (sym a.judged ∙ e) k (t.entered e) a.noted)
+      by (Err r) e = rw (t.broken (ap is_fine e)).0 (goes-out (Err r) 0 (sym e ∙ a.judged) refl)
 
   -- the turn of an item that is this one
   pub turns : {item : Item} → read.item ≡ item → {rates_then tasks_then aims_then : List ℕ} → Laid s (rows_in cells n) known item rates tasks aims rates_then tasks_then aims_then
       → {verdict : Verdict} → (Meets s (all_names s) g.env state at known item cells n rates_then tasks_then aims_then → verdict ≡ first (rules s (all_names s) g.env item))
-      → {next : Known} → next ≡ noted_by s (rows_in cells n) known item → goes item ≡ true → {turn : Turn} {cells_then : List ℕ} → Told s cells n item verdict next turn cells_then → Turned s at read turn cells_then rates_then tasks_then aims_then
+      → {next : Known} → next ≡ noted_by s (rows_in cells n) known item → goes item ≡ true → {turn : Result Turn Refusal} {cells_then : List ℕ} → Told s cells n item verdict next turn cells_then → Turned s at read turn cells_then rates_then tasks_then aims_then
   turns {item} same {rates_then} {tasks_then} {aims_then} l {verdict} v {next} q k {turn} {cells_then} t =
       let told : Told s cells n read.item verdict next turn cells_then = rw same t in
       let laid : Laid s (rows_in cells n) known read.item rates tasks aims rates_then tasks_then aims_then = rw same l in
@@ -258,57 +261,59 @@ module _ {s : List ℕ} {state : State} {at : ℕ} {cells : List ℕ} {n : ℕ} 
       goes-told (acts-by laid same v q) on told
 
   -- the answer at an item behind which nothing comes
-  pub goes_over : (v : Verdict) → v ≡ first (rules s (all_names s) g.env read.item) → goes read.item ≡ false → Answered s v cells n
-  goes_over Fine e k = goes-stop (sym e) k
-  goes_over (No number place) e k = goes-out (No number place) e refl
+  pub goes_over : (v : Verdict) → v ≡ first (rules s (all_names s) g.env read.item) → goes read.item ≡ false → Turned s at read (turn_of n v known) cells rates tasks aims
+  goes_over (Ok fine) e k = rw k (goes-stop (sym e) k)
+  goes_over (Err r) e k = goes-out (Err r) 0 e refl
 
 -- ---- the answer as a whole
 
--- for a text that breaks no rule the number of its names, for any other 0
-abbrev pub judged_by : Verdict → List Row → Judged
-judged_by Fine names = record { verdict = Fine; rows = length names }
-judged_by (No number at) names = record { verdict = No number at; rows = 0 }
+-- for a text that breaks no rule the number of its names, for any other its refusal
+abbrev pub judged_by : Verdict → List Row → Result ℕ Refusal
+judged_by verdict names = result_and verdict (Ok (length names))
 
 -- what a text is answered with
-abbrev pub judged : List ℕ → Judged
+abbrev pub judged : List ℕ → Result ℕ Refusal
 judged s = judged_by (verdict_of s) (all_names s)
 
 -- for a text that breaks no rule the table of its names, for any other the table without names
 abbrev pub tabled_by : List ℕ → Verdict → List Row → List ℕ
-tabled_by s Fine names = table_in s names
-tabled_by s (No number at) names = empty_table
+tabled_by s (Ok fine) names = table_in s names
+tabled_by s (Err r) names = empty_table
 
 -- the table of a text's names
 abbrev pub tabled : List ℕ → List ℕ
 tabled s = tabled_by s (verdict_of s) (all_names s)
 
+-- what an answer says of the rules
+abbrev pub verdict_in : Result ℕ Refusal → Verdict
+verdict_in (Ok n) = Fine
+verdict_in (Err r) = Err r
+
 -- an answer and a table are a text's
-pub record Judges (s : List ℕ) (r : Judged) (cells : List ℕ) : Type 0 where
-  pub leftmost : r.verdict ≡ verdict_of s
-  pub names : r.verdict ≡ Fine → rows_in cells r.rows ≡ all_names s
-  pub answer : r ≡ judged s
+pub record Judges (s : List ℕ) (answer : Result ℕ Refusal) (cells : List ℕ) : Type 0 where
+  pub leftmost : verdict_in answer ≡ verdict_of s
+  pub names : (n : ℕ) → answer ≡ Ok n → rows_in cells n ≡ all_names s
+  pub answers : answer ≡ judged s
   pub table : cells ≡ tabled s
 
-module _ {s : List ℕ} {verdict : Verdict} {cells : List ℕ} {n : ℕ} (a : Answered s verdict cells n) where
-  pub judges-no : is_fine verdict ≡ false → Judges s (record { verdict = verdict; rows = 0 }) empty_table
-  judges-no e =
+module _ {s : List ℕ} (cells : List ℕ) where
+  pub judges-no : (answer : Result ℕ Refusal) → is_err answer ≡ true → Ends s answer cells → Judges s answer empty_table
+  judges-no (Ok n) e a = let z : ◌≡◌ {A = ℕ} 0 1 = cc in absurd (omega arith)
+  judges-no (Err r) e a =
       record {
         leftmost = a.leftmost;
-        names = λ fine. let z : ◌≡◌ {A = ℕ} 0 1 = cc (sym (ap is_fine fine) ∙ e) in absurd (omega arith);
-        answer = rw (← a.leftmost) (by verdict e).0;
-        table = rw (← a.leftmost) (by verdict e).1;
+        names = λ n e. let z : ◌≡◌ {A = ℕ} 0 1 = cc in absurd (omega arith);
+        answers = rw (← a.leftmost);
+        table = rw (← a.leftmost);
       }
-    where
-      by : (v : Verdict) → is_fine v ≡ false → (record { verdict = v; rows = 0 } ≡ judged_by v (all_names s)) × (empty_table ≡ tabled_by s v (all_names s))
-      by Fine e = let z : ◌≡◌ {A = ℕ} 0 1 = cc in absurd (omega arith)
-      by (No number at) e = (refl, refl)
 
-  pub judges-fine : verdict ≡ Fine → Judges s (record { verdict = Fine; rows = n }) cells
-  judges-fine e =
-      let w = a.names e in
+  pub judges-fine : (answer : Result ℕ Refusal) → is_err answer ≡ false → Ends s answer cells → Judges s answer cells
+  judges-fine (Ok n) e a =
+      let w = a.names refl in
       record {
-        leftmost = sym e ∙ a.leftmost;
-        names = λ fine. w.rows;
-        answer = rw (← a.leftmost, e, ← w.size);
-        table = w.table ∙ rw (← a.leftmost, e);
+        leftmost = a.leftmost;
+        names = λ m e. let same : n ≡ m = cc in rw (← same) w.rows;
+        answers = rw (← a.leftmost, ← w.size);
+        table = w.table ∙ rw (← a.leftmost);
       }
+  judges-fine (Err r) e a = let z : ◌≡◌ {A = ℕ} 0 1 = cc in absurd (omega arith)

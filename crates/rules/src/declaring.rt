@@ -2,7 +2,6 @@
 ghost use Rattle.std.specs.Prelude.{◌≡◌, ℕ, Bool, [], ◌∷◌, ◌++◌};
 ghost use Rattle.text.specs.declared.Name.{Name};
 ghost use Rattle.text.specs.declared.Item.TheVariants.{Constant, Sensor, Actuator, TaskBegin, Input, Output, ModeBegin};
-ghost use Rattle.refusals.specs.declared.Verdict.TheVariants.{Fine};
 ghost use Rattle.refusals.specs.Checks.{first};
 ghost use Rattle.refusals.specs.Names.{no_type};
 ghost use Rattle.refusals.specs.Refusals.{long_name};
@@ -13,29 +12,20 @@ ghost use Rattle.names.specs.Index.{Indexed, Declared};
 ghost use Rattle.names.specs.Tables.{rows_in};
 ghost use Rattle.rules.specs.Going.{turn_of, Enters, Told};
 
-use super::{Turn, acting};
-use judging::declarations;
+use super::Turn;
+use judging::Names;
 use meanings::declaring;
 use names::Sought;
 use noting::Known;
-use refusals::{Row, Verdict};
-use text::Name;
+use refusals::Row;
+use text::{Name, Refusal};
 
 // An item of which only its name is judged.
-pub(crate) fn called(n: usize, known: Known, row: &[usize; 16]) -> Turn
+pub(crate) fn called(n: usize, known: Known, row: &[usize; 16]) -> Result<Turn, Refusal>
     ensures { result ≡ turn_of n (first (long_name (name_at row.now 5) ∷ [])) known }
 {
-    let name = kept::first_name(row);
-    let verdict = judging::name_rules(name);
-    acting::turned(n, verdict, known)
-}
-
-// The turn of an item that breaks nothing and declares this.
-fn entered(s: &[u8], cells: &mut [usize], n: usize, known: Known, row: Row) -> Turn
-    ensures { (result ≡ turn_of result.rows Fine known) × Declared s.now cells.old n row cells.new result.rows }
-{
-    let rows = names::declare(s, cells, n, row);
-    acting::turned(rows, Verdict::Fine, known)
+    judging::name_rules(kept::first_name(row))?;
+    Ok(Turn { rows: n, known })
 }
 
 // A constant.
@@ -45,19 +35,24 @@ pub(crate) fn constant(
     n: usize,
     known: Known,
     row: &[usize; 16],
-) -> Turn
+) -> Result<Turn, Refusal>
     ensures { Indexed s.now cells.old → Told s.now cells.old n (Constant (name_at row.now 5) (literal_at row.now 7)) (first (new_rules s.now (rows_in cells.old n) 0 (name_at row.now 5) ++ value_rules s.now (rows_in cells.old n) no_type (literal_at row.now 7))) known result cells.new }
 {
     let name = kept::first_name(row);
     let value = kept::first_value(row);
-    let verdict = declarations::constant_rules(s, cells, n, name, value);
-    let Verdict::Fine = verdict else {
-        return acting::stopped(n, verdict, known);
+    let names = Names {
+        text: s,
+        cells,
+        rows: n,
     };
+    names.constant_rules(name, value)?;
     let typ = meanings::literal_type(s, cells, n, value);
     let word = meanings::literal_word(s, cells, n, value);
     let constant = declaring::row_of(name, 0, 0, typ, word);
-    entered(s, cells, n, known, constant)
+    Ok(Turn {
+        rows: names::declare(s, cells, n, constant),
+        known,
+    })
 }
 
 // A sensor.
@@ -67,18 +62,23 @@ pub(crate) fn sensor(
     n: usize,
     known: Known,
     row: &[usize; 16],
-) -> Turn
+) -> Result<Turn, Refusal>
     ensures { Indexed s.now cells.old → Told s.now cells.old n (Sensor (name_at row.now 5) (name_at row.now 7) (name_at row.now 9)) (first (type_rules s.now (name_at row.now 5) ++ (new_rules s.now (rows_in cells.old n) 1 (name_at row.now 7) ++ (long_name (name_at row.now 9) ∷ [])))) known result cells.new }
 {
     let typ = kept::first_name(row);
     let name = kept::second_name(row);
     let getter = kept::third_name(row);
-    let verdict = declarations::sensor_rules(s, cells, n, typ, name, getter);
-    let Verdict::Fine = verdict else {
-        return acting::stopped(n, verdict, known);
+    let names = Names {
+        text: s,
+        cells,
+        rows: n,
     };
+    names.sensor_rules(typ, name, getter)?;
     let port = declaring::port_row(s, cells, n, typ, name, 0, 1);
-    entered(s, cells, n, known, port)
+    Ok(Turn {
+        rows: names::declare(s, cells, n, port),
+        known,
+    })
 }
 
 // An actuator.
@@ -88,33 +88,49 @@ pub(crate) fn actuator(
     n: usize,
     known: Known,
     row: &[usize; 16],
-) -> Turn
+) -> Result<Turn, Refusal>
     ensures { Indexed s.now cells.old → Told s.now cells.old n (Actuator (name_at row.now 5) (name_at row.now 7) (literal_at row.now 9) (name_at row.now 14)) (first (type_rules s.now (name_at row.now 5) ++ (new_rules s.now (rows_in cells.old n) 2 (name_at row.now 7) ++ (value_rules s.now (rows_in cells.old n) (type_named s.now (name_at row.now 5)) (literal_at row.now 9) ++ (long_name (name_at row.now 14) ∷ []))))) known result cells.new }
 {
     let typ = kept::first_name(row);
     let name = kept::second_name(row);
     let value = kept::second_value(row);
     let setter = kept::last_name(row);
-    let verdict = declarations::actuator_rules(s, cells, n, typ, name, value, setter);
-    let Verdict::Fine = verdict else {
-        return acting::stopped(n, verdict, known);
+    let names = Names {
+        text: s,
+        cells,
+        rows: n,
     };
+    names.actuator_rules(typ, name, value, setter)?;
     let port = declaring::port_row(s, cells, n, typ, name, 0, 2);
-    entered(s, cells, n, known, port)
+    Ok(Turn {
+        rows: names::declare(s, cells, n, port),
+        known,
+    })
 }
 
 // A task begins.
-pub(crate) fn task(s: &[u8], cells: &mut [usize], n: usize, known: Known, row: &[usize; 16]) -> Turn
+pub(crate) fn task(
+    s: &[u8],
+    cells: &mut [usize],
+    n: usize,
+    known: Known,
+    row: &[usize; 16],
+) -> Result<Turn, Refusal>
     ensures { Indexed s.now cells.old → Told s.now cells.old n (TaskBegin (name_at row.now 5)) (first (new_rules s.now (rows_in cells.old n) 3 (name_at row.now 5))) known result cells.new }
 {
     let name = kept::first_name(row);
-    let verdict = declarations::new_rules(s, cells, n, 3, name);
-    let Verdict::Fine = verdict else {
-        return acting::stopped(n, verdict, known);
+    let names = Names {
+        text: s,
+        cells,
+        rows: n,
     };
+    names.new_rules(3, name)?;
     let tasks = names::count(cells, n, Sought::Sort(3));
     let task = declaring::row_of(name, 0, 3, 2, tasks);
-    entered(s, cells, n, known, task)
+    Ok(Turn {
+        rows: names::declare(s, cells, n, task),
+        known,
+    })
 }
 
 // An input of a task.
@@ -124,18 +140,23 @@ pub(crate) fn input(
     n: usize,
     known: Known,
     row: &[usize; 16],
-) -> Turn
+) -> Result<Turn, Refusal>
     ensures { Indexed s.now cells.old → Told s.now cells.old n (Input (name_at row.now 5) (name_at row.now 7)) (first (type_rules s.now (name_at row.now 5) ++ new_port_rules s.now (rows_in cells.old n) 5 (name_at row.now 7))) known result cells.new }
 {
     let typ = kept::first_name(row);
     let name = kept::second_name(row);
-    let verdict = declarations::input_rules(s, cells, n, typ, name);
-    let Verdict::Fine = verdict else {
-        return acting::stopped(n, verdict, known);
+    let names = Names {
+        text: s,
+        cells,
+        rows: n,
     };
+    names.input_rules(typ, name)?;
     let tasks = names::count(cells, n, Sought::Sort(3));
     let port = declaring::port_row(s, cells, n, typ, name, tasks, 5);
-    entered(s, cells, n, known, port)
+    Ok(Turn {
+        rows: names::declare(s, cells, n, port),
+        known,
+    })
 }
 
 // An output of a task.
@@ -145,19 +166,24 @@ pub(crate) fn output(
     n: usize,
     known: Known,
     row: &[usize; 16],
-) -> Turn
+) -> Result<Turn, Refusal>
     ensures { Indexed s.now cells.old → Told s.now cells.old n (Output (name_at row.now 5) (name_at row.now 7) (literal_at row.now 9)) (first (type_rules s.now (name_at row.now 5) ++ (new_port_rules s.now (rows_in cells.old n) 6 (name_at row.now 7) ++ value_rules s.now (rows_in cells.old n) (type_named s.now (name_at row.now 5)) (literal_at row.now 9)))) known result cells.new }
 {
     let typ = kept::first_name(row);
     let name = kept::second_name(row);
     let value = kept::second_value(row);
-    let verdict = declarations::output_rules(s, cells, n, typ, name, value);
-    let Verdict::Fine = verdict else {
-        return acting::stopped(n, verdict, known);
+    let names = Names {
+        text: s,
+        cells,
+        rows: n,
     };
+    names.output_rules(typ, name, value)?;
     let tasks = names::count(cells, n, Sought::Sort(3));
     let port = declaring::port_row(s, cells, n, typ, name, tasks, 6);
-    entered(s, cells, n, known, port)
+    Ok(Turn {
+        rows: names::declare(s, cells, n, port),
+        known,
+    })
 }
 
 // The table with the mode of this name; the number of its rows then.

@@ -8,35 +8,20 @@ ghost use Rattle.text.specs.declared.State.{State};
 ghost use Rattle.text.specs.Items.{item_at};
 ghost use Rattle.kept.specs.Kept.{Kept};
 ghost use Rattle.kept.specs.Rows.{state_of, read_of};
-ghost use Rattle.rules.specs.Going.{Going, Answered, Turned, Spread, Judges};
+ghost use Rattle.rules.specs.Going.{Going, Ends, Turned, Spread, Judges};
 
+use judging::Names;
 use noting::Known;
-use refusals::Verdict;
+use text::Refusal;
 
 mod acting;
 mod declaring;
 
-// A turn of the pass: whether it goes on, what its item breaks, the number of names, and what is known at the next item.
+// What a turn of the pass leaves: the number of names, and what is known at the next item.
 #[derive(Clone, Copy)]
 pub(crate) struct Turn {
-    pub(crate) on: bool,
-    pub(crate) verdict: Verdict,
     pub(crate) rows: usize,
     pub(crate) known: Known,
-}
-
-// The answer of the pass: what the text breaks, and how many names it declares.
-#[derive(Clone, Copy)]
-struct Outcome {
-    verdict: Verdict,
-    rows: usize,
-}
-
-// What a text breaks, and how many names it declares where it breaks nothing.
-#[derive(Clone, Copy)]
-pub struct Judged {
-    pub verdict: Verdict,
-    pub rows: usize,
 }
 
 // An item before the modes, by its kind: the module's name, a section, a constant, a sensor, an actuator, a task's name, its input, its output, or its end.
@@ -46,14 +31,13 @@ fn declaration_step(
     n: usize,
     known: Known,
     row: &[usize; 16],
-) -> Turn
+) -> Result<Turn, Refusal>
     ensures { slice_index row.now 0 < 9 → (state : State) (at : ℕ) (rates tasks aims : List ℕ) → read_of row.now ≡ item_at s.now state at → Going s.now state at cells.old n known rates tasks aims
         → Turned s.now at (read_of row.now) result cells.new rates tasks aims }
 {
-    let kind = row[0];
-    match kind {
+    match row[0] {
         0 => declaring::called(n, known, row),
-        1 => acting::turned(n, Verdict::Fine, known),
+        1 => Ok(Turn { rows: n, known }),
         2 => declaring::constant(s, cells, n, known, row),
         3 => declaring::sensor(s, cells, n, known, row),
         4 => declaring::actuator(s, cells, n, known, row),
@@ -78,33 +62,37 @@ fn step<'a>(
     at: usize,
     known: Known,
     row: &[usize; 16],
-) -> Turn
+) -> Result<Turn, Refusal>
     ensures { Kept s.now memo.now → read_of row.now ≡ item_at s.now (state_of state) at → Going s.now (state_of state) at cells.old n known rates.old tasks.old aims.old
         → Turned s.now at (read_of row.now) result cells.new rates.new tasks.new aims.new }
 {
     let kind = row[0];
+    if kind < 9 {
+        return declaration_step(s, cells, n, known, row);
+    }
+    if kind == 9 {
+        return acting::begun(s, cells, n, known, row);
+    }
+    let names = Names {
+        text: s,
+        cells,
+        rows: n,
+    };
     match kind {
-        9 => acting::begun(s, cells, n, known, row),
-        10 => acting::headed(s, rates, n, known, row),
-        11 => acting::guarded(s, n, known, row),
-        12 => acting::operated(s, cells, n, known, row),
-        13 => acting::invoked(s, cells, n, rates, tasks, known, row),
-        14 => acting::argued(s, cells, n, known, row),
-        15 => acting::updated(s, cells, n, aims, known, row),
-        16 => acting::switched(s, memo, k, cells, n, state, at, known, row),
-        17 => acting::turned(n, Verdict::Fine, known),
-        18 => acting::turned(n, Verdict::Fine, known),
+        10 => acting::headed(&names, rates, known, row),
+        11 => acting::guarded(&names, known, row),
+        12 => acting::operated(&names, known, row),
+        13 => acting::invoked(&names, rates, tasks, known, row),
+        14 => acting::argued(&names, known, row),
+        15 => acting::updated(&names, aims, known, row),
+        16 => acting::switched(&names, memo, k, state, at, known, row),
+        17 | 18 => Ok(Turn { rows: n, known }),
         19 => acting::ended(n, known, s.len()),
-        _ => {
-            if kind < 9 {
-                return declaration_step(s, cells, n, known, row);
-            }
-            acting::stopped(n, Verdict::Fine, known)
-        }
+        _ => Ok(Turn { rows: n, known }),
     }
 }
 
-// All items, up to the first that breaks a rule.
+// All items, up to the first that breaks a rule: how many names they declare.
 fn fold<'a>(
     s: &'a [u8],
     memo: &'a [usize],
@@ -112,49 +100,42 @@ fn fold<'a>(
     rates: &mut [usize],
     tasks: &mut [usize],
     aims: &mut [usize],
-) -> Outcome
+) -> Result<usize, Refusal>
     requires { Spread cells.old rates.old tasks.old aims.old }
-    ensures { Kept s.now memo.now → Answered s.now result.verdict cells.new result.rows }
+    ensures { Kept s.now memo.now → Ends s.now result cells.new }
 {
     let mut row = [0usize; 16];
     let mut state = 0;
     let mut at = 0;
-    let mut n = 0;
-    let mut known = noting::nothing();
-    let mut k = 0;
+    let mut turn = Turn {
+        rows: 0,
+        known: Known::nothing(),
+    };
+    let mut k = 0usize;
     while at <= s.len() {
         kept::fetch(s, memo, k, state, at, &mut row);
-        let turn = step(
-            s, memo, k, cells, n, rates, tasks, aims, state, at, known, &row,
-        );
-        if !turn.on {
-            let answer = turn.verdict;
-            return Outcome {
-                verdict: answer,
-                rows: turn.rows,
-            };
+        turn = step(
+            s, memo, k, cells, turn.rows, rates, tasks, aims, state, at, turn.known, &row,
+        )?;
+        if 18 < row[0] {
+            return Ok(turn.rows);
         }
-        let next = row[4];
-        if next <= at {
-            return Outcome {
-                verdict: Verdict::Fine,
-                rows: turn.rows,
-            };
+        if row[4] <= at {
+            return Ok(turn.rows);
         }
         state = row[3];
-        at = next;
-        n = turn.rows;
-        known = turn.known;
-        k = std::num::wrapping_add_usize(k, 1);
+        at = row[4];
+        k = k.wrapping_add(1);
     }
-    Outcome {
-        verdict: Verdict::Fine,
-        rows: n,
-    }
+    Ok(turn.rows)
 }
 
-// The leftmost of 4 to 12 that a text breaks, and where it breaks none the table of the names that it declares; beside a refusal the table is empty.
-pub fn judge<'a>(s: &'a [u8], memo: &'a [usize], cells: &mut [usize; 4672]) -> Judged
+// The leftmost of 4 to 12 that a text breaks, and where it breaks none the number of the names that it declares, with their table; beside a refusal the table is empty.
+pub fn judge<'a>(
+    s: &'a [u8],
+    memo: &'a [usize],
+    cells: &mut [usize; 4672],
+) -> Result<usize, Refusal>
     ensures { Kept s.now memo.now → Judges s.now result cells.new }
 {
     *cells = [0usize; 4672];
@@ -162,16 +143,8 @@ pub fn judge<'a>(s: &'a [u8], memo: &'a [usize], cells: &mut [usize; 4672]) -> J
     let mut tasks = [0usize; 32];
     let mut aims = [0usize; 32];
     let outcome = fold(s, memo, cells, &mut rates, &mut tasks, &mut aims);
-    let answer = outcome.verdict;
-    let Verdict::Fine = answer else {
+    if outcome.is_err() {
         *cells = [0usize; 4672];
-        return Judged {
-            verdict: answer,
-            rows: 0,
-        };
-    };
-    Judged {
-        verdict: Verdict::Fine,
-        rows: outcome.rows,
     }
+    outcome
 }

@@ -1,14 +1,18 @@
 -- Keywords by their marks: a word can be at most one keyword, that of its mark.
-use Rattle.std.specs.Prelude.{ℕ, suc, ◌+◌, ◌-◌, ◌*◌, ◌≤◌, ◌<◌, ◌≡◌, refl, List, [], ◌∷◌, Bool, true, false, cond, length, get_or, take, eqb, leb, T}
-use Rattle.std.proofs.Common.{sym, ap, ◌∙◌, add-zero, arith, get_or-take, get_or-drop}
-use Rattle.std.proofs.Math.Seq.{slice}
+use Rattle.std.specs.Prelude.{ℕ, suc, ◌+◌, ◌-◌, ◌*◌, ◌≤◌, ◌<◌, ◌≡◌, refl, List, [], ◌∷◌, Bool, true, false, cond, Option, Some, None, length, get_or, eqb, leb, T}
+use denote.Ref.{Bor}
+use Rattle.text.specs.declared.Token as tokens
+use Rattle.text.specs.declared.Token.TheVariants as Token
+use Rattle.text.specs.Tokens.{key_token, word_token}
+use Rattle.std.specs.Cmp.Lexicographic.{pointwise}
+use Rattle.std.proofs.Common.{sym, ap, ◌∙◌, add-zero, arith}
 use Rattle.std.proofs.Math.Dec.{eqb→eq, leb→le}
 use Rattle.model.specs.Bytes.{same, place_in}
 use Rattle.text.specs.Words.{keywords, keyword}
 use Rattle.text.proofs.WordsLaws.{same→eq, same-lengths}
 use Rattle.text.specs.EachEntry.{both, both_left, both_right, each-entry}
-use Rattle.text.specs.KeyTable.{key_numbers}
-use Rattle.scan.specs.Slices.{slice-length}
+use Rattle.text.specs.KeyTable.{key_numbers, key-none}
+use Rattle.scan.specs.Slices.{same-pointwise}
 
 -- a word's mark: its first letter, twice its last but one and five times its length
 abbrev pub mark_of : List ℕ → ℕ
@@ -40,6 +44,11 @@ marked mark =
     cond (eqb mark 360) 20 (
     cond (eqb mark 339) 21
     22)))))))))))))))))))))
+
+-- what is told of a mark: the keyword that has it with its token, or that none has
+abbrev pub Candidate : ℕ → Option (Bor (List ℕ) × tokens.Token) → Type 0
+Candidate mark (Some (word, token)) = (k : ℕ) × (k < 22) × (marked mark ≡ k) × (word.now ≡ keyword k) × (token ≡ key_token k)
+Candidate mark None = marked mark ≡ 22
 
 -- of 2 letters up to 12
 sized : ℕ → ℕ → Bool
@@ -111,10 +120,18 @@ module _ (w : List ℕ) where
           let q : k ≡ j = p ∙ rw (is-keyword j g w e) (key-marked j g) in
           rw q at n g
 
--- the mark of a part of a text
-pub mark-slice : (s : List ℕ) (i e : ℕ) → i + 2 ≤ e → e ≤ length s → get_or s i 0 + get_or s (e - 2) 0 * 2 + (e - i) * 5 ≡ mark_of (slice i e s)
-mark-slice s i e h g =
-    let n : length (slice i e s) ≡ e - i = slice-length i e s ∙ omega arith in
-    let first : get_or (slice i e s) 0 0 ≡ get_or s i 0 = get_or-drop i (take e s) 0 0 ∙ get_or-take e s (i + 0) 0 (omega arith) ∙ rw (add-zero i) in
-    let near : get_or (slice i e s) (e - i - 2) 0 ≡ get_or s (e - 2) 0 = get_or-drop i (take e s) (e - i - 2) 0 ∙ get_or-take e s (i + (e - i - 2)) 0 (omega arith) ∙ ap (λ (j : ℕ). get_or s j 0) (omega arith) in
-    simp (n, first, near)
+  -- a word that is no keyword
+  pub no_token : place_in keywords 0 w ≡ 22 → Token.Name ≡ word_token w
+  no_token e = sym (rw e (key-none 22 (omega arith)))
+
+  -- what is told of the word's mark tells its token
+  pub candidate_token : (keyword : Bor (List ℕ)) (token : tokens.Token) → Candidate (mark_of w) (Some (keyword, token)) → pointwise eqb w keyword.now ≡ true → token ≡ word_token w
+  candidate_token v t (k, h, m, e, p) q =
+      let alike : same w (keyword k) ≡ true = rw (← e) (sym (same-pointwise w v.now) ∙ q) in
+      p ∙ sym (ap key_token (place_at k h w alike))
+
+  pub candidate-other : (keyword : Bor (List ℕ)) (token : tokens.Token) → Candidate (mark_of w) (Some (keyword, token)) → pointwise eqb w keyword.now ≡ false → Token.Name ≡ word_token w
+  candidate-other v t (k, h, m, e, p) q = no_token (unlike k (sym m) (λ g. rw (← e) (sym (same-pointwise w v.now) ∙ q)))
+
+  pub candidate-none : Candidate (mark_of w) None → Token.Name ≡ word_token w
+  candidate-none m = no_token (unlike 22 (sym m) (λ g. absurd (omega arith)))

@@ -1,5 +1,5 @@
 -- Bytes that start a token: signs, and those that are no small letter and no sign.
-use Rattle.std.specs.Prelude.{ℕ, ◌+◌, ◌<◌, ◌≡◌, refl, List, true, false, length, get_or, eqb}
+use Rattle.std.specs.Prelude.{ℕ, ◌+◌, ◌<◌, ◌≡◌, refl, List, true, false, Option, Some, None, length, get_or, eqb}
 use Rattle.std.proofs.Common.{sym, ap, ◌∙◌, arith}
 use Rattle.std.proofs.Math.Seq.{slice}
 use Rattle.std.proofs.lemmas.Bool.{eqb-false}
@@ -11,8 +11,6 @@ use Rattle.text.specs.Words.{letter, digit, word_byte, munch_at}
 use Rattle.text.specs.Tokens.{word_token, sign_token, lexed, starts_at, token_at}
 use Rattle.text.specs.StartsLaws as starts
 use Rattle.text.proofs.TokensLaws.{munch-at-within}
-use Rattle.scan.specs.declared.Alone.{Alone}
-use Rattle.scan.specs.declared.Alone.TheVariants.{Sign, Nothing}
 use Rattle.scan.specs.Runs.{small, colon_equals}
 use Rattle.scan.specs.WordBytes.{named, small-letter, digit-letter}
 
@@ -23,11 +21,11 @@ pub record Plain (b : ℕ) : Type 0 where
   pub uncolon : eqb b 58 ≡ false
 
 -- what is told of a byte: the sign that it is, or that it is none
-abbrev pub SignOf : ℕ → Alone → Type 0
-SignOf b (Sign t) = Plain b × (sign_token b ≡ t)
-SignOf b Nothing = sign_token b ≡ Token.Bad
+abbrev pub SignOf : ℕ → Option tokens.Token → Type 0
+SignOf b (Some t) = Plain b × (sign_token b ≡ t)
+SignOf b None = sign_token b ≡ Token.Bad
 
-pub sign-is : {b : ℕ} (k : ℕ) → Plain k → b ≡ k → SignOf b (Sign (sign_token k))
+pub sign-is : {b : ℕ} (k : ℕ) → Plain k → b ≡ k → SignOf b (Some (sign_token k))
 sign-is k p e = (rw e p, ap sign_token e)
 
 -- a place whose byte is b, no small letter and no sign

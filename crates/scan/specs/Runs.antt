@@ -8,10 +8,13 @@ use Rattle.text.specs.Tokens.{word_token}
 use Rattle.scan.specs.declared.words.Run.{Run}
 use Rattle.scan.specs.declared.words.Run.TheVariants.{Name, Word}
 
--- whether a byte goes on a number, or else a word
-abbrev pub takes : Bool → ℕ → Bool
-takes true b = digit b
-takes false b = word_byte b
+-- a test tells what calls answer of a byte
+abbrev pub Tells : (ℕ → Bool) → (ℕ → Bool → Type 0) → Type 0
+Tells test answers = (b : ℕ) (r : Bool) → b < 256 → answers b r → r ≡ test b
+
+-- calls take bytes of words alone
+abbrev pub OfWords : (ℕ → Bool → Type 0) → Type 0
+OfWords answers = (b : ℕ) → b < 256 → answers b true → word_byte b ≡ true
 
 -- whether b is `:`, and `=` stands at the next place
 abbrev pub colon_equals : List ℕ → ℕ → ℕ → Bool
@@ -30,11 +33,11 @@ pub record Closed (s : List ℕ) (at : ℕ) : Type 0 where
   pub inside : at < length s
   pub last : get_or s (length s - 1) 0 < code "0"
 
--- a place behind small letters, where none stands
-pub record SmallEnds (s : List ℕ) (at end : ℕ) : Type 0 where
+-- a place behind bytes of a word that calls take, where they take none
+pub record Ends (answers : ℕ → Bool → Type 0) (s : List ℕ) (at end : ℕ) : Type 0 where
   pub on : at ≤ end
   pub inside : end < length s
-  pub other : small (get_or s end 0) ≡ false
+  pub other : answers (get_or s end 0) false
   pub same : munch_at word_byte s at ≡ munch_at word_byte s end
 
 -- the place behind the word that starts at a place; a name is no keyword

@@ -1,7 +1,9 @@
 -- Small letters, the marks of names, and where a text's last byte ends every word.
-use Rattle.std.specs.Prelude.{ℕ, zero, suc, ◌+◌, ◌-◌, ◌≤◌, ◌<◌, ◌≡◌, refl, List, [], ◌∷◌, Bool, true, false, cond, length, get_or, take, eqb, leb, ltb, T}
+use Rattle.std.specs.Prelude.{ℕ, zero, suc, ◌+◌, ◌-◌, ◌≤◌, ◌<◌, ◌≡◌, refl, List, [], ◌∷◌, Bool, true, false, cond, ◌&&◌, length, get_or, take, eqb, leb, ltb, T}
 use Rattle.std.proofs.Common.{sym, subst, ap, ◌∙◌, arith, ne_eqb, ltb-true, ltb-false, leb-true, get_or-take, get_or-drop}
 use Rattle.std.proofs.lemmas.Bool.{lt-leb}
+use Rattle.std.specs.Int.{is_in_range}
+use Rattle.std.specs.Char.{is_ascii_digit, is_ascii_lowercase}
 use Rattle.std.proofs.Math.Seq.{slice}
 use Rattle.model.specs.Bytes.{same}
 use Rattle.text.specs.declared.Token.TheVariants as Token
@@ -9,7 +11,7 @@ use Rattle.text.specs.Words.{within, letter, digit, word_byte, keywords, keyword
 use Rattle.text.specs.Tokens.{word_token}
 use Rattle.text.specs.KeyTable.{key_numbers, key-none}
 use Rattle.text.specs.EachEntry.{both, both_left, both_right, each-entry}
-use Rattle.scan.specs.Runs.{takes, small, mark}
+use Rattle.scan.specs.Runs.{small, mark}
 use Rattle.scan.specs.KeyMarks.{no-keyword, is-keyword}
 use Rattle.scan.specs.Slices.{slice-length}
 
@@ -38,7 +40,20 @@ no_byte true lower false false p q = q
 no_byte false true false false p q = p
 no_byte false false false false p q = refl
 
+in_range : (low high b : ℕ) → is_in_range low high b ≡ within low high b
+in_range low high b = by (leb low b)
+  where
+    by : (t : Bool) → (t && leb b high) ≡ cond t (leb b high) false
+    by true = refl
+    by false = refl
+
 module _ (b : ℕ) where
+  pub small-ascii : is_ascii_lowercase b ≡ small b
+  small-ascii = in_range 97 122 b
+
+  pub digit-ascii : is_ascii_digit b ≡ digit b
+  digit-ascii = in_range 48 57 b
+
   pub small-letter : small b ≡ true → letter b ≡ true
   small-letter e = either_way (within 65 90 b) (simp e)
 
@@ -63,27 +78,6 @@ digit-letter b d =
     below : (t : Bool) → cond t (leb b 57) false ≡ true → b ≤ 57
     below true e = leb-true _ _ e
     below false e = never (sym e)
-
-pub low-takes : (number : Bool) (b : ℕ) → b < 48 → takes number b ≡ false
-low-takes true b h = simp (lt-leb 48 b h)
-low-takes false b h = low_word b h
-
-last-way : (l d : Bool) → d ≡ false → l ≡ cond l true d
-last-way true d e = refl
-last-way false d e = sym e
-
--- a digit goes on both, a letter only a name
-pub digit-takes : (number : Bool) (b : ℕ) → digit b ≡ true → takes number b ≡ true
-digit-takes true b e = e
-digit-takes false b e = either_way (letter b) e
-
-pub undigit-takes : (number : Bool) (b : ℕ) → number ≡ true → digit b ≡ false → takes number b ≡ false
-undigit-takes true b n e = e
-undigit-takes false b n e = never (sym n)
-
-pub letter-takes : (number : Bool) (b : ℕ) → number ≡ false → digit b ≡ false → letter b ≡ takes number b
-letter-takes true b n e = never n
-letter-takes false b n e = last-way (letter b) (digit b) e
 
 -- a byte that goes on a name is not the last
 pub further : (s : List ℕ) (i : ℕ) → get_or s (length s - 1) 0 < 48 → i < length s → word_byte (get_or s i 0) ≡ true → i + 1 < length s

@@ -14,78 +14,32 @@ mod keys;
 mod spaces;
 mod words;
 
-pub use words::{same, value};
-
-// The token that a byte alone is, or none.
-#[derive(Clone, Copy)]
-enum Alone {
-    Sign(Token),
-    Nothing,
-}
+pub use words::{part, same, value};
 
 // The number of a token.
 pub fn code(t: Token) -> u8
     ensures { result ≡ code_of t }
 {
-    match t {
-        Token::Name => 0,
-        Token::Number => 1,
-        Token::LeftBrace => 2,
-        Token::RightBrace => 3,
-        Token::LeftBracket => 4,
-        Token::RightBracket => 5,
-        Token::LeftParen => 6,
-        Token::RightParen => 7,
-        Token::Semicolon => 8,
-        Token::Equals => 9,
-        Token::Dot => 10,
-        Token::Becomes => 11,
-        Token::Comma => 12,
-        Token::Minus => 13,
-        Token::KeyActuator => 14,
-        Token::KeyAs => 15,
-        Token::KeyAsynchronous => 16,
-        Token::KeyConst => 17,
-        Token::KeyFalse => 18,
-        Token::KeyIf => 19,
-        Token::KeyImport => 20,
-        Token::KeyInit => 21,
-        Token::KeyInput => 22,
-        Token::KeyMode => 23,
-        Token::KeyModule => 24,
-        Token::KeyOutput => 25,
-        Token::KeyPublic => 26,
-        Token::KeySensor => 27,
-        Token::KeyStart => 28,
-        Token::KeyState => 29,
-        Token::KeyStruct => 30,
-        Token::KeyTask => 31,
-        Token::KeyThen => 32,
-        Token::KeyTrue => 33,
-        Token::KeyType => 34,
-        Token::KeyUses => 35,
-        Token::End => 36,
-        Token::Bad => 37,
-    }
+    t as u8
 }
 
 // The sign that a byte alone is.
-fn sign(b: u8) -> Alone
+fn sign(b: u8) -> Option<Token>
     ensures { SignOf b result }
 {
     match b {
-        b'{' => Alone::Sign(Token::LeftBrace),
-        b'}' => Alone::Sign(Token::RightBrace),
-        b'[' => Alone::Sign(Token::LeftBracket),
-        b']' => Alone::Sign(Token::RightBracket),
-        b'(' => Alone::Sign(Token::LeftParen),
-        b')' => Alone::Sign(Token::RightParen),
-        b';' => Alone::Sign(Token::Semicolon),
-        b'=' => Alone::Sign(Token::Equals),
-        b'.' => Alone::Sign(Token::Dot),
-        b',' => Alone::Sign(Token::Comma),
-        b'-' => Alone::Sign(Token::Minus),
-        _ => Alone::Nothing,
+        b'{' => Some(Token::LeftBrace),
+        b'}' => Some(Token::RightBrace),
+        b'[' => Some(Token::LeftBracket),
+        b']' => Some(Token::RightBracket),
+        b'(' => Some(Token::LeftParen),
+        b')' => Some(Token::RightParen),
+        b';' => Some(Token::Semicolon),
+        b'=' => Some(Token::Equals),
+        b'.' => Some(Token::Dot),
+        b',' => Some(Token::Comma),
+        b'-' => Some(Token::Minus),
+        _ => None,
     }
 }
 
@@ -93,23 +47,13 @@ fn sign(b: u8) -> Alone
 fn becomes(s: &[u8], next: usize, b: u8) -> bool
     ensures { result ≡ colon_equals s.now next b }
 {
-    if b != b':' {
-        return false;
-    }
-    if next < s.len() {
-        return s[next] == b'=';
-    }
-    false
+    b == b':' && next < s.len() && s[next] == b'='
 }
 
 fn found(token: Token, start: usize, end: usize) -> Lexed
     ensures { result ≡ lexed token start end }
 {
-    Lexed {
-        token: token,
-        start: start,
-        end: end,
-    }
+    Lexed { token, start, end }
 }
 
 // The word that starts at a place with a small letter: a keyword, or else a name.
@@ -119,7 +63,7 @@ fn word(s: &[u8], at: usize) -> Lexed
 {
     match words::word_run(s, at) {
         words::Run::Name(end) => found(Token::Name, at, end),
-        words::Run::Word(end) => found(keys::word_token(s, at, end), at, end),
+        words::Run::Word(end) => found(keys::word_token(&s[at..end]), at, end),
     }
 }
 
@@ -129,16 +73,19 @@ fn other(s: &[u8], at: usize, b: u8) -> Lexed
     ensures { result ≡ starts_at s.now at }
 {
     let next = at + 1;
-    if words::is_digit(b) {
-        return found(Token::Number, at, words::run_end(s, next, true));
+    if b.is_ascii_digit() {
+        found(
+            Token::Number,
+            at,
+            words::run_end(s, next, |b| b.is_ascii_digit()),
+        )
+    } else if words::is_letter(b) {
+        found(Token::Name, at, words::run_end(s, next, words::is_word))
+    } else if becomes(s, next, b) {
+        found(Token::Becomes, at, next + 1)
+    } else {
+        found(Token::Bad, at, next)
     }
-    if words::is_letter(b) {
-        return found(Token::Name, at, words::run_end(s, next, false));
-    }
-    if becomes(s, next, b) {
-        return found(Token::Becomes, at, next + 1);
-    }
-    found(Token::Bad, at, next)
 }
 
 // The token that starts at a place with byte b.
@@ -146,12 +93,12 @@ fn starts_at(s: &[u8], at: usize, b: u8) -> Lexed
     requires { (at < length s.now) × (get_or s.now at 0 ≡ b) }
     ensures { result ≡ starts_at s.now at }
 {
-    if words::is_small(b) {
+    if b.is_ascii_lowercase() {
         return word(s, at);
     }
     match sign(b) {
-        Alone::Sign(t) => found(t, at, at + 1),
-        Alone::Nothing => other(s, at, b),
+        Some(token) => found(token, at, at + 1),
+        None => other(s, at, b),
     }
 }
 
@@ -170,34 +117,24 @@ pub fn token(s: &[u8], at: usize) -> Lexed
 pub fn list_token(s: &[u8], at: usize) -> Lexed
     ensures { result ≡ token_at s.now at }
 {
-    if at < s.len() {
-        let b = s[at];
-        if b == b',' {
-            return found(Token::Comma, at, at + 1);
-        }
-        if b == b')' {
-            return found(Token::RightParen, at, at + 1);
-        }
-        if b == b'.' {
-            return found(Token::Dot, at, at + 1);
-        }
+    match s.get(at) {
+        Some(b',') => found(Token::Comma, at, at + 1),
+        Some(b')') => found(Token::RightParen, at, at + 1),
+        Some(b'.') => found(Token::Dot, at, at + 1),
+        _ => token(s, at),
     }
-    token(s, at)
 }
 
 // The number of the token at a place.
 pub fn code_at(s: &[u8], at: usize) -> u8
     ensures { result ≡ code_at s.now at }
 {
-    let lexed = token(s, at);
-    let t = lexed.token;
-    code(t)
+    code(token(s, at).token)
 }
 
 // Whether the token at a place is t.
 pub fn stands(s: &[u8], at: usize, t: Token) -> bool
     ensures { result ≡ stands_at t s.now at }
 {
-    let wanted = code(t);
-    code_at(s, at) == wanted
+    token(s, at).token == t
 }

@@ -1,17 +1,10 @@
 // White space and comments.
-ghost use Rattle.std.specs.Prelude.{◌≡◌, ◌≤◌};
+ghost use Rattle.std.specs.Prelude.{◌≡◌, ◌≤◌, length};
 ghost use Rattle.text.specs.Spaces.{white, spaces_at, line_at};
 ghost use Rattle.scan.specs.Blocks.{BlockEnds};
 ghost use Rattle.scan.specs.Places.{Reached};
 
 use text::Skipped;
-
-// The place behind a block comment's `*/`, or none.
-#[derive(Clone, Copy)]
-pub enum Block {
-    Past(usize),
-    Never,
-}
 
 // Where white space and comments end: at a byte, at the end of the text, or at the start of a comment that is not closed.
 #[derive(Clone, Copy)]
@@ -24,49 +17,36 @@ pub enum Place {
 fn is_white(b: u8) -> bool
     ensures { result ≡ white b }
 {
-    match b {
-        b' ' => true,
-        b'\n' => true,
-        b'\r' => true,
-        b'\t' => true,
-        _ => false,
-    }
+    matches!(b, b' ' | b'\n' | b'\r' | b'\t')
 }
 
 // The place behind the first LF from `at` on, or the end of the text.
 fn line_end(s: &[u8], at: usize) -> usize
+    requires { at ≤ length s.now }
     ensures { (at ≤ result) × (line_at s.now at ≡ spaces_at s.now result) }
 {
-    let mut i = at;
-    while i < s.len() {
+    for i in at..s.len() {
         if s[i] == b'\n' {
             return i + 1;
         }
-        i += 1;
     }
-    i
+    s.len()
 }
 
 // The place behind the first `*/` from `at` on.
-fn block_end(s: &[u8], at: usize) -> Block
+fn block_end(s: &[u8], at: usize) -> Option<usize>
+    requires { at ≤ length s.now }
     ensures { BlockEnds s.now at result }
 {
-    let mut i = at;
-    while i < s.len() {
-        let next = i + 1;
-        if next < s.len() {
-            if s[i] == b'*' {
-                if s[next] == b'/' {
-                    return Block::Past(next + 1);
-                }
-            }
+    for i in at + 1..s.len() {
+        if s[i - 1] == b'*' && s[i] == b'/' {
+            return Some(i + 1);
         }
-        i = next;
     }
-    Block::Never
+    None
 }
 
-// Where white space and comments that begin at a place end.
+// Where white space and comments that begin at a place end. A comment is passed at once, so the place is no counter.
 fn skip(s: &[u8], at: usize) -> Skipped
     ensures { result ≡ spaces_at s.now at }
 {
@@ -75,43 +55,29 @@ fn skip(s: &[u8], at: usize) -> Skipped
         let b = s[i];
         if is_white(b) {
             i += 1;
+        } else if b != b'/' || s.len() <= i + 1 {
+            return Skipped::Stop(i);
         } else {
-            if b != b'/' {
-                return Skipped::Stop(i);
-            }
-            let next = i + 1;
-            if s.len() <= next {
-                return Skipped::Stop(i);
-            }
-            let d = s[next];
-            if d == b'/' {
-                i = line_end(s, next + 1);
-            } else {
-                if d != b'*' {
-                    return Skipped::Stop(i);
-                }
-                let block = block_end(s, next + 1);
-                let Block::Past(past) = block else {
-                    return Skipped::Open(i);
-                };
-                i = past;
+            match s[i + 1] {
+                b'/' => i = line_end(s, i + 2),
+                b'*' => match block_end(s, i + 2) {
+                    Some(past) => i = past,
+                    None => return Skipped::Open(i),
+                },
+                _ => return Skipped::Stop(i),
             }
         }
     }
     Skipped::Stop(i)
 }
 
-// The byte behind white space and comments that begin at a place, perhaps with a slash.
+// The byte behind white space and comments that begin at a place with a slash.
 fn behind(s: &[u8], at: usize) -> Place
     ensures { Reached s.now at result }
 {
     match skip(s, at) {
-        Skipped::Stop(place) => {
-            if place < s.len() {
-                return Place::Byte(place, s[place]);
-            }
-            Place::End(place)
-        }
+        Skipped::Stop(place) if place < s.len() => Place::Byte(place, s[place]),
+        Skipped::Stop(place) => Place::End(place),
         Skipped::Open(place) => Place::Open(place),
     }
 }
@@ -120,17 +86,12 @@ fn behind(s: &[u8], at: usize) -> Place
 pub fn first(s: &[u8], at: usize) -> Place
     ensures { Reached s.now at result }
 {
-    let mut i = at;
-    while i < s.len() {
-        let b = s[i];
-        if is_white(b) {
-            i += 1;
-        } else {
-            if b == b'/' {
-                return behind(s, i);
-            }
-            return Place::Byte(i, b);
+    for i in at..s.len() {
+        match s[i] {
+            b'/' => return behind(s, i),
+            b if is_white(b) => {}
+            b => return Place::Byte(i, b),
         }
     }
-    Place::End(i)
+    Place::End(at.max(s.len()))
 }

@@ -1,21 +1,25 @@
 -- One instruction and one reaction over arrays: the answer, and the ports.
-use Rattle.std.specs.Prelude.{ℕ, ◌≡◌, refl, false, List}
+use Rattle.std.specs.Prelude.{ℕ, ◌≡◌, refl, List, Result, Ok, Err}
 use Rattle.std.proofs.Common.{sym, ap, ◌∙◌}
 use Rattle.settled.specs.Settled.{Settled}
-use Rattle.steps.specs.declared.Driven.{Driven}
-use Rattle.steps.specs.declared.Driven.TheVariants.{Done, Over, Late}
-use Rattle.steps.specs.Steps.{Core, Stepped, worded, drives}
-use Rattle.react.specs.Runs.{carries}
-use Rattle.steps.proofs.row_at.Kinds as row_at
-use Rattle.steps.proofs.row_at.Reads as row-at-reads
+use Rattle.steps.specs.declared.Fault.{Fault}
+use Rattle.steps.specs.Steps.{Driven}
+use Rattle.react.specs.declared.Ran.{Ran}
+use Rattle.react.specs.Runs.{Shown, shows}
+use Rattle.steps.proofs.programs.Program.row_at.Kinds as row_at
+use Rattle.steps.proofs.programs.Program.row_at.Reads as row-at-reads
 use Rattle.steps.proofs.place.Kinds as place
 use Rattle.steps.proofs.place.Reads as place-reads
 use Rattle.steps.proofs.task_cell.Kinds as task-cell
 use Rattle.steps.proofs.task_cell.Reads as task-cell-reads
-use Rattle.steps.proofs.begin_of.Kinds as begin-of
-use Rattle.steps.proofs.begin_of.Reads as begin-of-reads
-use Rattle.steps.proofs.drive.Kinds as drive
-use Rattle.steps.proofs.drive.Reads as drive-reads
+use Rattle.steps.proofs.programs.Program.begin_of.Kinds as begin-of
+use Rattle.steps.proofs.programs.Program.begin_of.Reads as begin-of-reads
+use Rattle.steps.proofs.programs.Program.drive.Kinds as drive
+use Rattle.steps.proofs.programs.Program.drive.Reads as drive-reads
+use Rattle.steps.proofs.programs.Program.holds.Kinds as holds
+use Rattle.steps.proofs.programs.Program.holds.Reads as holds-reads
+use Rattle.steps.proofs.Fault.number.Kinds as number
+use Rattle.steps.proofs.Fault.number.Reads as number-reads
 use Rattle.react.proofs.react.Kinds as react
 use Rattle.react.proofs.react.Reads as react-reads
 
@@ -31,23 +35,37 @@ task-cell-settled κs arguments one other held kept p q = (p ∙ sym q, refl)
 pub begin-of-settled : Settled begin-of.ps begin-of.r begin-of-reads.Post
 begin-of-settled κs arguments one other held kept p q = (p ∙ sym q, refl)
 
--- the ports behind a driver are those that are shown, whatever it tells
-ports-shown : (told : Driven) (core : Core) (ports : List ℕ) → (drives told core ports).ports ≡ ports
-ports-shown Done core ports = refl
-ports-shown (Over task) core ports = refl
-ports-shown (Late task) core ports = refl
+pub holds-settled : Settled holds.ps holds.r holds-reads.Post
+holds-settled κs arguments one other held kept p q = (p ∙ sym q, refl)
 
-same-ports : (told other : Driven) (core : Core) (ports after : List ℕ) → drives told core ports ≡ drives other core after → ports ≡ after
-same-ports told other core ports after same = sym (ports-shown told core ports) ∙ ap (λ (s : Stepped). s.ports) same ∙ ports-shown other core after
+pub number-settled : Settled number.ps number.r number-reads.Post
+number-settled κs arguments one other held kept p q = (p ∙ sym q, refl)
 
+-- the ports and the words of tasks behind a driver
 pub drive-settled : Settled drive.ps drive.r drive-reads.Post
 drive-settled κs arguments one other held kept p q =
-    let core : Core = carries 0 0 false 0 0 0 0 0 in
-    let words = arguments.1.1.1.1.1 in
-    let ports = same-ports one other (worded words.0 words.1.0 core) held.1.1.1.1.0 kept.1.1.1.1.0 (p.1 core ∙ sym (q.1 core)) in
-    (p.0 ∙ sym q.0, λ i. (tt, (tt, (tt, (tt, (ports i, (tt, (tt, tt))))))))
+    let same = p ∙ sym q in
+    (ap (λ (d : Driven). d.answer) same, λ i. (tt, (tt, (tt, ((same i).ports, ((same i).tasks, tt))))))
+
+-- what is shown of a reaction is all that it answers
+shown-once : (one other : Result Ran Fault) (ports after : List ℕ) → shows one ports ≡ shows other after → one ≡ other
+shown-once (Ok ran) (Ok more) ports after same =
+    let halted : ran.halted ≡ more.halted = let endings = ap (λ (s : Shown). s.ending) same in cc in
+    let steps = ap (λ (s : Shown). s.steps) same in
+    λ i. Ok (record { halted = halted i; steps = steps i })
+shown-once (Ok ran) (Err fault) ports after same = let endings = ap (λ (s : Shown). s.ending) same in cc
+shown-once (Err fault) (Ok ran) ports after same = let endings = ap (λ (s : Shown). s.ending) same in cc
+shown-once (Err fault) (Err more) ports after same = let endings = ap (λ (s : Shown). s.ending) same in cc
+
+-- the ports of what is shown
+ports-shown : (one : Result Ran Fault) (ports : List ℕ) → (shows one ports).ports ≡ ports
+ports-shown (Ok ran) ports = refl
+ports-shown (Err fault) ports = refl
+
+same-ports : (one other : Result Ran Fault) (ports after : List ℕ) → shows one ports ≡ shows other after → ports ≡ after
+same-ports one other ports after same = sym (ports-shown one ports) ∙ ap (λ (s : Shown). s.ports) same ∙ ports-shown other after
 
 pub react-settled : Settled react.ps react.r react-reads.Post
 react-settled κs arguments one other held kept p q =
     let same = p ∙ sym q in
-    (λ i. record { ending = (same i).ending; steps = (same i).steps }, λ i. (tt, (tt, (tt, (tt, (tt, (tt, (tt, (tt, ((same i).ports, (tt, (tt, (tt, (tt, (tt, tt)))))))))))))))
+    (shown-once one other _ _ same, λ i. (tt, (tt, (tt, (same-ports one other _ _ same i, (tt, (tt, (tt, tt))))))))

@@ -32,8 +32,8 @@ use Rattle.lines.proofs.saying.values.Kinds as saying-values
 use Rattle.lines.proofs.saying.values.Reads as saying-values-reads
 use Rattle.naming.proofs.name.Kinds as name
 use Rattle.naming.proofs.name.Reads as name-reads
-use Rattle.naming.proofs.port.Kinds as port
-use Rattle.naming.proofs.port.Reads as port-reads
+use Rattle.naming.proofs.Names.port.Kinds as port
+use Rattle.naming.proofs.Names.port.Reads as port-reads
 
 pub find-settled : Settled find.ps find.r find-reads.Post
 find-settled κs arguments one other held kept p q = (p.place ∙ sym q.place, refl)
@@ -51,7 +51,7 @@ pub numbers-decimal-settled : Settled numbers-decimal.ps numbers-decimal.r numbe
 numbers-decimal-settled κs arguments one other held kept p q = (p ∙ sym q, refl)
 
 pub numbers-small-settled : Settled numbers-small.ps numbers-small.r numbers-small-reads.Post
-numbers-small-settled κs arguments one other held kept p q = (p.answer ∙ sym q.answer, refl)
+numbers-small-settled κs arguments one other held kept p q = (p ∙ sym q, refl)
 
 pub numbers-bytes-settled : Settled numbers-bytes.ps numbers-bytes.r numbers-bytes-reads.Post
 numbers-bytes-settled κs arguments one other held kept p q =
@@ -90,4 +90,4 @@ pub name-settled : Settled name.ps name.r name-reads.Post
 name-settled κs arguments one other held kept p q = (p.place ∙ sym q.place, λ i. ((p.held ∙ sym q.held) i, (tt, (tt, (tt, tt)))))
 
 pub port-settled : Settled port.ps port.r port-reads.Post
-port-settled κs arguments one other held kept p q = (p.place ∙ sym q.place, λ i. ((p.held ∙ sym q.held) i, (tt, (tt, (tt, (tt, (tt, (tt, (tt, (tt, (tt, (tt, tt))))))))))))
+port-settled κs arguments one other held kept p q = (p.place ∙ sym q.place, λ i. (tt, ((p.held ∙ sym q.held) i, (tt, (tt, tt)))))

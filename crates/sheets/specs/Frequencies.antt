@@ -10,7 +10,7 @@ use Rattle.text.specs.declared.Item.TheVariants as I
 use Rattle.text.specs.Items.{syntax_of}
 use Rattle.timing.specs.SlotLaws.{Each}
 use Rattle.refusals.specs.declared.Row.{Row}
-use Rattle.refusals.specs.declared.Verdict.TheVariants.{Fine}
+use Rattle.refusals.specs.Verdicts.{Fine}
 use Rattle.refusals.specs.Checks.{first}
 use Rattle.refusals.specs.ChecksLaws.{fine-one}
 use Rattle.refusals.specs.Activities.{head_rules}

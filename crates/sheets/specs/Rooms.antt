@@ -22,7 +22,7 @@ use Rattle.timing.specs.Code.{terminates_from, mode_drivers}
 use Rattle.prescribed.specs.Tables.{argument_of, guard_row}
 use Rattle.layout.specs.Plain.{driver_cells, argument_cells, guard_cells}
 use Rattle.emit.specs.Rows.{map_act}
-use Rattle.refusals.specs.declared.Verdict.TheVariants.{Fine}
+use Rattle.refusals.specs.Verdicts.{Fine}
 use Rattle.refusals.specs.Activities.{activities_in}
 use Rattle.refusals.specs.Texts.{verdict_of, module_of}
 use Rattle.accepted.specs.Lists.{each_append, each_map, each-mapped, each_at}

@@ -15,6 +15,7 @@ use Rattle.sheets.specs.declared.Filled.{Filled}
 use Rattle.sheets.specs.declared.Opened.{Opened}
 use Rattle.sheets.specs.declared.Acting.{Acting}
 use Rattle.sheets.specs.declared.Plan.{Plan}
+use Rattle.sheets.specs.declared.Arrays.{Arrays}
 
 -- a number of 32 bits; where it is more, the greatest
 abbrev pub cap : ℕ → ℕ
@@ -214,6 +215,18 @@ abbrev pub sheet : Plan → List ℕ → List ℕ → List ℕ → List ℕ → 
 sheet plan guards drivers acts names heads modes =
     record { plan = plan; guards = guards; drivers = drivers; acts = acts; names = names; heads = heads; modes = modes }
 
+abbrev pub sheet_of : Arrays → Sheet
+sheet_of a = sheet a.plan a.guards.now a.drivers.now a.acts.now a.names.now a.heads.now a.modes.now
+
+-- the same arrays, whatever stands in them
+pub record SameArrays (a b : Arrays) : Type 0 where
+  pub guards : a.guards.ghost_name ≡ b.guards.ghost_name
+  pub drivers : a.drivers.ghost_name ≡ b.drivers.ghost_name
+  pub acts : a.acts.ghost_name ≡ b.acts.ghost_name
+  pub names : a.names.ghost_name ≡ b.names.ghost_name
+  pub heads : a.heads.ghost_name ≡ b.heads.ghost_name
+  pub modes : a.modes.ghost_name ≡ b.modes.ghost_name
+
 abbrev pub with_plan : Sheet → Plan → Sheet
 with_plan h plan = sheet plan h.guards h.drivers h.acts h.names h.heads h.modes
 
@@ -256,36 +269,3 @@ planned s all rows (I.Output typ name value) h = h
 planned s all rows I.ModuleEnd h = h
 planned s all rows I.End h = h
 planned s all rows (I.No number at) h = h
-
--- ---- the same for the arrays of each item
-
-pub record TaskEnded (plan : Plan) (drivers : List ℕ) (plan' : Plan) (drivers' : List ℕ) : Type 0 where
-  pub kept : plan' ≡ task_closed plan
-  pub row : drivers' ≡ termination_stored plan.filled drivers
-
-pub record Invoked (plan : Plan) (task : ℕ) (guards drivers acts : List ℕ) (plan' : Plan) (guards' drivers' acts' : List ℕ) : Type 0 where
-  pub kept : plan' ≡ called plan
-  pub guard-row : guards' ≡ guard_stored plan.filled.guards plan.acting guards
-  pub driver-row : drivers' ≡ release_stored plan task drivers
-  pub act-row : acts' ≡ call_stored plan task acts
-
-pub record Sourced (plan : Plan) (port : ℕ) (drivers : List ℕ) (plan' : Plan) (drivers' : List ℕ) : Type 0 where
-  pub kept : plan' ≡ fed plan
-  pub row : drivers' ≡ source_read plan port drivers
-
-pub record Updated (plan : Plan) (source target : ℕ) (guards drivers acts : List ℕ) (plan' : Plan) (guards' drivers' acts' : List ℕ) : Type 0 where
-  pub kept : plan' ≡ renewed plan
-  pub guard-row : guards' ≡ guard_stored plan.filled.guards plan.acting guards
-  pub driver-row : drivers' ≡ update_stored plan source target drivers
-  pub act-row : acts' ≡ updating_stored plan acts
-
-pub record Switched (plan : Plan) (target : ℕ) (guards acts : List ℕ) (plan' : Plan) (guards' acts' : List ℕ) : Type 0 where
-  pub kept : plan' ≡ turned plan
-  pub guard-row : guards' ≡ guard_stored plan.filled.guards plan.acting guards
-  pub act-row : acts' ≡ switch_stored plan target acts
-
-pub record ModeEnded (s : List ℕ) (plan : Plan) (names heads modes : List ℕ) (plan' : Plan) (names' heads' modes' : List ℕ) : Type 0 where
-  pub kept : plan' ≡ mode_closed plan
-  pub name : names' ≡ name_stored s plan.opened.name plan.filled.modes names
-  pub head : heads' ≡ stored heads (plan.filled.modes * 3) (plan.opened.start ∷ plan.opened.period ∷ 0 ∷ [])
-  pub frame : modes' ≡ stored modes (plan.filled.modes * 5) (plan.opened.period ∷ plan.opened.calls ∷ plan.opened.updates ∷ plan.opened.switches ∷ plan.filled.acts ∷ [])

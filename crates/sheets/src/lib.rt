@@ -15,7 +15,7 @@ pub struct Filled {
     pub modes: u32,
 }
 
-// The mode under way: where its name stands, 1 for a start mode, its period, its activities so far, and the sources of the task invoked last.
+// The mode under way: where its name stands, 1 for a start mode (as its row has it), its period, its activities so far, and the sources of the task invoked last.
 #[derive(Clone, Copy)]
 pub struct Opened {
     pub name: Name,
@@ -27,7 +27,7 @@ pub struct Opened {
     pub sources: u32,
 }
 
-// The activity under way: its frequency, its guard's function (0 none, else its number and 1), the number of operands, and the first two as the table has them.
+// The activity under way: its frequency, its guard's function (0 none, else its number and 1, as specs/Sheets reads it), the number of operands, and the first two as the table has them.
 #[derive(Clone, Copy)]
 pub struct Acting {
     pub frequency: u32,
@@ -45,4 +45,16 @@ pub struct Plan {
     pub filled: Filled,
     pub opened: Opened,
     pub acting: Acting,
+}
+
+// The arrays that are filled, and what is kept: rows of guards, drivers and activities; names and rows of modes, and what their code is made of.
+#[derive(Drop)]
+pub struct Arrays<'a> {
+    pub plan: Plan,
+    pub guards: &'a mut [u32],
+    pub drivers: &'a mut [u32],
+    pub acts: &'a mut [u32],
+    pub names: &'a mut [u8],
+    pub heads: &'a mut [u32],
+    pub modes: &'a mut [u32],
 }

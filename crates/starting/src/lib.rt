@@ -18,6 +18,6 @@ pub fn start<'b>(table: Table, count: u32, types: &'b [u32], words: &'b [u32]) -
     ensures machine { Started table count types.now words.now result }
     ensures means { reaction_means result.answer ≡ start_means (sound_in table) (board_in table) count types.now words.now }
 {
-    let sound = ecode::sound(table);
+    let sound = ecode::sound(&table);
     emachine::start_on(table, sound, count, types, words)
 }

@@ -1,133 +1,93 @@
 -- One instruction, over the core that the code carries from one to the next and the ports beside it.
-use Rattle.std.specs.Prelude.{ℕ, ◌+◌, Bool, true, false, cond, List, length, get_or, ltb}
-use Rattle.std.proofs.Math.Option.{Option, none, some}
-use Rattle.model.specs.Instructions.{Instr, nop, future, call, release, iff, jump, return, switch, Driver, updates, releases, terminates}
-use Rattle.machine.specs.Words.{has, parted}
+use Rattle.std.specs.Prelude.{ℕ, ◌+◌, Bool, true, false, cond, List, length, get_or, ltb, Option, Some, None, Result, Ok, Err}
+use Rattle.std.proofs.Math.Option as M
+use Rattle.std.proofs.Math.Option.{none, some}
+use Rattle.model.specs.Instructions.{Instr, nop, future, call, release, iff, jump, return, switch}
 use Rattle.machine.specs.Boards.{Board}
-use Rattle.machine.specs.Instructions.{Fault, late, wild, astray, clash, Res, ok, bad, Future, Halt}
+use Rattle.machine.specs.Instructions as I
+use Rattle.machine.specs.Instructions.{late, wild, astray, clash, Res, ok, bad, Halt}
 use Rattle.machine.specs.Store.{Store, store_ops}
+use Rattle.steps.specs.Rows.{reactive}
+use Rattle.steps.specs.declared.Tasks.{Tasks}
+use Rattle.steps.specs.declared.Future.{Future}
 use Rattle.steps.specs.declared.Halted.{Halted}
-use Rattle.steps.specs.declared.Ending.{Ending}
-use Rattle.steps.specs.declared.Ending.TheVariants as E
-use Rattle.steps.specs.declared.Driven.{Driven}
-use Rattle.steps.specs.declared.Driven.TheVariants.{Done, Over, Late}
+use Rattle.steps.specs.declared.Core.{Core}
+use Rattle.steps.specs.declared.Fault.{Fault}
+use Rattle.steps.specs.declared.Fault.TheVariants as F
+use Rattle.steps.specs.declared.programs.Program.{Program}
 
--- ---- what the machine carries from one instruction to the next: where it stands, its mode, the future if one is promised, the words of tasks
+-- what a program stands for
+abbrev pub board_of : Program → Board
+board_of p = reactive p.instructions p.code.now p.drivers.now p.guards.now p.modes.now p.tasks.now
 
-pub record Core : Type 0 where
-  pub pc : ℕ
-  pub mode : ℕ
-  pub pledged : Bool
-  pub next : ℕ
-  pub delay : ℕ
-  pub out : ℕ
-  pub waiting : ℕ
-  pub finished : ℕ
+-- how a reaction ends
+abbrev pub Ending : Type 0
+Ending = Result Halted Fault
 
 -- what comes after an instruction: the next one, or the end
 pub data After : Type 0 where
   Next : Core → After
   Ended : Ending → After
 
--- ---- what the core stands for
+-- ---- what the code's values stand for
 
-abbrev pub store_of : Core → List ℕ → Store
-store_of core ports = record { ports = ports; out = core.out; waiting = core.waiting; finished = core.finished }
+abbrev pub store_of : Tasks → List ℕ → Store
+store_of tasks ports = record { ports = ports; out = tasks.out; waiting = tasks.waiting; finished = tasks.finished }
 
-abbrev pub promise : Bool → ℕ → ℕ → Option Future
-promise true pc delay = some (record { pc = pc; delay = delay })
-promise false pc delay = none
+abbrev pub tasks_of : Store → Tasks
+tasks_of store = record { out = store.out; waiting = store.waiting; finished = store.finished }
 
-abbrev pub promise_of : Core → Option Future
-promise_of core = promise core.pledged core.next core.delay
+abbrev pub promise_of : Option Future → M.Option I.Future
+promise_of (Some held) = some (record { pc = held.pc; delay = held.delay })
+promise_of None = none
 
-abbrev pub ending_by : Fault → Ending
-ending_by (late task) = E.Late task
-ending_by wild = E.Fault 41
-ending_by astray = E.Fault 42
-ending_by clash = E.Fault 43
+abbrev pub fault_by : I.Fault → Fault
+fault_by (late task) = F.Late task
+fault_by wild = F.Wild
+fault_by astray = F.Astray
+fault_by clash = F.Clash
+
+-- its number in document 01
+abbrev pub number_of : Fault → ℕ
+number_of (F.Late task) = 40
+number_of F.Wild = 41
+number_of F.Astray = 42
+number_of F.Clash = 43
 
 abbrev pub halted_by : Halt Store → Halted
 halted_by halt =
-    record {
-      mode = halt.mode;
-      next = halt.future.pc;
-      delay = halt.future.delay;
-      out = halt.store.out;
-      waiting = halt.store.waiting;
-      finished = halt.store.finished;
-    }
+    record { mode = halt.mode; future = record { pc = halt.future.pc; delay = halt.future.delay }; tasks = tasks_of halt.store }
+
+-- ---- what a driver leaves: a fault changes nothing
+
+pub record Driven : Type 0 where
+  pub answer : Result (Unit {0}) Fault
+  pub tasks : Tasks
+  pub ports : List ℕ
+
+abbrev pub drove : Result (Unit {0}) Fault → Tasks → List ℕ → Driven
+drove answer tasks ports = record { answer = answer; tasks = tasks; ports = ports }
+
+abbrev pub settles : Tasks → List ℕ → Res Store → Driven
+settles tasks ports (ok store) = drove (Ok tt) (tasks_of store) store.ports
+settles tasks ports (bad fault) = drove (Err (fault_by fault)) tasks ports
 
 -- ---- changes of the core
 
 abbrev pub goes : ℕ → Core → Core
-goes pc core =
-    record {
-      pc = pc;
-      mode = core.mode;
-      pledged = core.pledged;
-      next = core.next;
-      delay = core.delay;
-      out = core.out;
-      waiting = core.waiting;
-      finished = core.finished;
-    }
+goes pc core = record { pc = pc; mode = core.mode; future = core.future; tasks = core.tasks }
 
 abbrev pub turns : ℕ → ℕ → Core → Core
-turns mode pc core =
-    record {
-      pc = pc;
-      mode = mode;
-      pledged = core.pledged;
-      next = core.next;
-      delay = core.delay;
-      out = core.out;
-      waiting = core.waiting;
-      finished = core.finished;
-    }
+turns mode pc core = record { pc = pc; mode = mode; future = core.future; tasks = core.tasks }
 
 abbrev pub pledges : ℕ → ℕ → Core → Core
-pledges pc delay core =
-    record {
-      pc = core.pc;
-      mode = core.mode;
-      pledged = true;
-      next = pc;
-      delay = delay;
-      out = core.out;
-      waiting = core.waiting;
-      finished = core.finished;
-    }
+pledges pc delay core = record { pc = core.pc; mode = core.mode; future = Some (record { pc = pc; delay = delay }); tasks = core.tasks }
 
-abbrev pub keeps : Store → Core → Core
-keeps store core =
-    record {
-      pc = core.pc;
-      mode = core.mode;
-      pledged = core.pledged;
-      next = core.next;
-      delay = core.delay;
-      out = store.out;
-      waiting = store.waiting;
-      finished = store.finished;
-    }
+abbrev pub keeps : Tasks → Core → Core
+keeps tasks core = record { pc = core.pc; mode = core.mode; future = core.future; tasks = tasks }
 
-abbrev pub worded : ℕ → ℕ → Core → Core
-worded out finished core =
-    record {
-      pc = core.pc;
-      mode = core.mode;
-      pledged = core.pledged;
-      next = core.next;
-      delay = core.delay;
-      out = out;
-      waiting = core.waiting;
-      finished = finished;
-    }
-
-abbrev pub halted_of : Core → Halted
-halted_of core =
-    record { mode = core.mode; next = core.next; delay = core.delay; out = core.out; waiting = core.waiting; finished = core.finished }
+abbrev pub halted_of : Future → Core → Halted
+halted_of held core = record { mode = core.mode; future = held; tasks = core.tasks }
 
 -- ---- one instruction; the core's pc stands behind it
 
@@ -139,45 +99,29 @@ abbrev pub stepped : After → List ℕ → Stepped
 stepped after ports = record { after = after; ports = ports }
 
 abbrev pub settled : Core → List ℕ → Res Store → Stepped
-settled core ports (ok store) = stepped (Next (keeps store core)) store.ports
-settled core ports (bad fault) = stepped (Ended (ending_by fault)) ports
+settled core ports (ok store) = stepped (Next (keeps (tasks_of store) core)) store.ports
+settled core ports (bad fault) = stepped (Ended (Err (fault_by fault))) ports
 
--- what a driver leaves
-abbrev pub drives : Driven → Core → List ℕ → Stepped
-drives Done core ports = stepped (Next core) ports
-drives (Over task) core ports = stepped (Next (worded (parted core.out task) (parted core.finished task) core)) ports
-drives (Late task) core ports = stepped (Ended (E.Late task)) ports
+abbrev pub promised : ℕ → ℕ → Core → Option Future → After
+promised pc delay core (Some held) = Ended (Err F.Astray)
+promised pc delay core None = Next (pledges pc delay core)
 
--- what is told of a task that is to end: nothing if it is not out; that it is late, or that it is over
-abbrev pub told_of : ℕ → ℕ → ℕ → Driven
-told_of out finished task = cond (has out task) (cond (has finished task) (Over task) (Late task)) Done
-
--- what a driver tells: only one that ends a task tells anything
-abbrev pub tells : ℕ → ℕ → Driver → Driven
-tells out finished (updates source target) = Done
-tells out finished (releases task sources) = Done
-tells out finished (terminates task) = told_of out finished task
-
-abbrev pub promised : ℕ → ℕ → Core → Bool → After
-promised pc delay core true = Ended (E.Fault 42)
-promised pc delay core false = Next (pledges pc delay core)
-
-abbrev pub returned : Core → Bool → After
-returned core true = Ended (E.Returned (halted_of core))
-returned core false = Ended (E.Fault 42)
+abbrev pub returned : Core → Option Future → After
+returned core (Some held) = Ended (Ok (halted_of held core))
+returned core None = Ended (Err F.Astray)
 
 module _ (b : Board) (aside : List ℕ) where
   abbrev pub obey : Instr → Core → List ℕ → Stepped
   obey (nop marker) core ports = stepped (Next core) ports
-  obey (future pc delay) core ports = stepped (promised pc delay core core.pledged) ports
-  obey (call driver) core ports = settled core ports ((store_ops b aside).drive driver (store_of core ports))
-  obey (release task) core ports = settled core ports ((store_ops b aside).begin task (store_of core ports))
-  obey (iff guard other) core ports = stepped (Next (cond ((store_ops b aside).test guard (store_of core ports)) core (goes other core))) ports
+  obey (future pc delay) core ports = stepped (promised pc delay core core.future) ports
+  obey (call driver) core ports = settled core ports ((store_ops b aside).drive driver (store_of core.tasks ports))
+  obey (release task) core ports = settled core ports ((store_ops b aside).begin task (store_of core.tasks ports))
+  obey (iff guard other) core ports = stepped (Next (cond ((store_ops b aside).test guard (store_of core.tasks ports)) core (goes other core))) ports
   obey (jump pc) core ports = stepped (Next (goes pc core)) ports
-  obey return core ports = stepped (returned core core.pledged) ports
+  obey return core ports = stepped (returned core core.future) ports
   obey (switch target) core ports = stepped (Next (turns target (get_or b.begins target 0) core)) ports
 
   unfoldable pub step_of : Core → List ℕ → Stepped
   step_of core ports =
       cond (ltb core.pc (length b.code)) (obey (get_or b.code core.pc (nop 0)) (goes (core.pc + 1) core) ports)
-      (stepped (Ended (E.Fault 41)) ports)
+      (stepped (Ended (Err F.Wild)) ports)

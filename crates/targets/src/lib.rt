@@ -8,10 +8,10 @@ ghost use Rattle.text.specs.Items.{items_from};
 ghost use Rattle.refusals.specs.Names.{letters};
 ghost use Rattle.kept.specs.Rows.{fields_in, item_of};
 ghost use Rattle.kept.specs.Kept.{Kept};
-ghost use Rattle.names.specs.Index.{Indexed};
-ghost use Rattle.names.specs.Tables.{rows_in};
+ghost use Rattle.judging.specs.Known.{rows_of, Right};
 ghost use Rattle.targets.specs.Ahead.{begins as begins_mode, mode_ahead, is_target};
 
+use judging::Names;
 use names::Scope;
 use text::{Name, State};
 
@@ -19,10 +19,7 @@ use text::{Name, State};
 fn begins(s: &[u8], kind: usize, start: usize, end: usize, sought: Name) -> bool
     ensures { (row : List ℕ) → kind ≡ slice_index row 0 → start ≡ slice_index row 5 → end ≡ slice_index row 6 → result ≡ begins_mode s.now (letters s.now sought) (item_of (fields_in row)) }
 {
-    if kind == 9 {
-        return names::same_parts(s, start, end, sought.start, sought.end);
-    }
-    false
+    kind == 9 && names::same_parts(s, start, end, sought.start, sought.end)
 }
 
 // Whether one of the items from a place on begins a mode of the name sought; the first of them is item k.
@@ -48,33 +45,39 @@ fn ahead<'a>(
         if 18 < seen.kind {
             return false;
         }
-        let next = seen.next;
-        if next <= place {
+        if seen.next <= place {
             return false;
         }
-        number = std::num::wrapping_add_usize(stop.item, 1);
+        number = stop.item.wrapping_add(1);
         behind = seen.behind;
-        place = next;
+        place = seen.next;
     }
     false
 }
 
-// Whether a name means a mode: by the first n names, or else by the items from a place on, the first of which is item k.
-pub fn is_mode<'a>(
-    s: &'a [u8],
-    cells: &[usize],
-    n: usize,
-    memo: &'a [usize],
+// Whether a name means a mode: by the names so far, or else by the items from a place on, the first of which is item k.
+pub fn is_mode(
+    names: &Names<'_>,
+    memo: &[usize],
     k: usize,
     state: State,
     at: usize,
     name: Name,
 ) -> bool
-    ensures { Indexed s.now cells.now → Kept s.now memo.now → result ≡ is_target s.now (rows_in cells.now n) (items_from s.now state at) name }
+    ensures { Right names.now → Kept names.now.text.now memo.now → result ≡ is_target names.now.text.now (rows_of names.now) (items_from names.now.text.now state at) name }
 {
-    let row = names::find(s, cells, n, Scope::Numbered(0), name.start, name.end);
+    let scope = Scope::Numbered(0);
+    let row = names::find(
+        names.text,
+        names.cells,
+        names.rows,
+        scope,
+        name.start,
+        name.end,
+    );
     if row.sort < 7 {
-        return row.sort == 4;
+        row.sort == 4
+    } else {
+        ahead(names.text, memo, k, state, at, name)
     }
-    ahead(s, memo, k, state, at, name)
 }

@@ -1,7 +1,6 @@
 -- Document 01's number, byte offset and length for each of the compiler's answers.
-use Rattle.std.specs.Prelude.{ℕ, ◌≡◌, refl, length}
-use Rattle.prescribed.specs.declared.Compiled.{Compiled}
-use Rattle.prescribed.specs.declared.Compiled.TheVariants.{Written, Refused}
+use Rattle.std.specs.Prelude.{ℕ, ◌≡◌, refl, length, Ok, Err}
+use Rattle.prescribed.specs.Compiled.{Compiled}
 use Rattle.prescribed.specs.Compiles.{Compiling, file, refused}
 use Rattle.prescribed.specs.Answers.{answered}
 
@@ -13,8 +12,8 @@ pub record Numbers : Type 0 where
 
 -- of an answer
 abbrev pub numbers_in : Compiled → Numbers
-numbers_in (Written size) = record { number = 0; offset = 0; size = size }
-numbers_in (Refused number at) = record { number = number; offset = at; size = 0 }
+numbers_in (Ok size) = record { number = 0; offset = 0; size = size }
+numbers_in (Err r) = record { number = r.number; offset = r.at; size = 0 }
 
 -- of what document 01 prescribes
 abbrev pub numbers_of : Compiling → Numbers

@@ -1,22 +1,21 @@
 -- The compiler's answer, stage by stage: what refuses a text, in document 01's order.
-use Rattle.std.specs.Prelude.{ℕ, ◌+◌, ◌≤◌, ◌<◌, ◌≡◌, List, [], ◌∷◌, length}
+use Rattle.std.specs.Prelude.{ℕ, ◌+◌, ◌≤◌, ◌<◌, ◌≡◌, List, [], ◌∷◌, length, Result, Ok, Err}
 use Rattle.std.proofs.Math.Path.{refl}
 use Rattle.std.proofs.Common.{sym, ap, ◌∙◌}
 use borrow.Author.Tests.{lt-ltb, le-ltb}
 use Rattle.model.specs.Rooms.{text_room, code_room}
 use Rattle.text.specs.Items.{refuse, items_of, syntax_of}
-use Rattle.refusals.specs.declared.Verdict.TheVariants.{Fine, No}
+use Rattle.refusals.specs.Verdicts.{Verdict, Fine, No}
 use Rattle.refusals.specs.Texts.{declared_by, verdict_of, module_of}
 use Rattle.names.specs.Tables.{rows_in}
 use Rattle.names.specs.Index.{Indexed, empty_table, declared_in, entered_in, table_in}
 use Rattle.names.specs.Declaring.{declared-length, empty-indexed, empty-long}
 use Rattle.refusals.specs.declared.Row.{Row}
 use Rattle.noting.specs.Filled.{table-indexed}
-use Rattle.rules.specs.declared.Judged.{Judged}
+use Rattle.text.specs.declared.Refusal.{Refusal}
 use Rattle.rules.specs.Going.{all_names, tabled_by, Judges}
-use Rattle.refusals.specs.declared.Verdict.{Verdict}
 use Rattle.timing.specs.Code.{code_of}
-use Rattle.prescribed.specs.declared.Compiled.{Compiled}
+use Rattle.prescribed.specs.Compiled.{Compiled}
 use Rattle.prescribed.specs.Acceptance.{Readable}
 use Rattle.prescribed.proofs.Acceptance.{free}
 use Rattle.prescribed.specs.Compiles.{Compiling, refused, file_of, in_room, compile_of}
@@ -40,12 +39,12 @@ pub record Unbroken (text names : List ℕ) (rows : ℕ) : Type 0 where
   pub indexed : Indexed text names
 
 -- the table of names that judging leaves has its index
-pub names-indexed : {s : List ℕ} {r : Judged} {cells : List ℕ} → Judges s r cells → Indexed s cells
+pub names-indexed : {s : List ℕ} {r : Result ℕ Refusal} {cells : List ℕ} → Judges s r cells → Indexed s cells
 names-indexed {s} j = rw j.table (by (verdict_of s))
   where
     by : (v : Verdict) → Indexed s (tabled_by s v (all_names s))
-    by Fine = table-indexed s (all_names s)
-    by (No number at) = empty-indexed s
+    by (Ok fine) = table-indexed s (all_names s)
+    by (Err r) = empty-indexed s
 
 -- and its length
 entered-long : (s : List ℕ) (rows : List Row) (cells : List ℕ) (k : ℕ) → length (entered_in s cells k rows) ≡ length cells
@@ -53,13 +52,13 @@ unfolding entered_in
 entered-long s [] cells k = refl
 entered-long s (row ∷ rows) cells k = entered-long s rows (declared_in s cells k row) (k + 1) ∙ declared-length {s = s} {cells = cells} {n = k} {row = row} (record { array = refl; rows = refl })
 
-pub names-long : {s : List ℕ} {r : Judged} {cells : List ℕ} → Judges s r cells → length cells ≡ 4672
+pub names-long : {s : List ℕ} {r : Result ℕ Refusal} {cells : List ℕ} → Judges s r cells → length cells ≡ 4672
 unfolding table_in
 names-long {s} j = rw j.table (by (verdict_of s))
   where
     by : (v : Verdict) → length (tabled_by s v (all_names s)) ≡ 4672
-    by Fine = entered-long s (all_names s) empty_table 0 ∙ empty-long
-    by (No number at) = empty-long
+    by (Ok fine) = entered-long s (all_names s) empty_table 0 ∙ empty-long
+    by (Err r) = empty-long
 
 pub compiles : {text before : List ℕ} {c : Compiling} → compile_of text (length before) ≡ c → Compiles text before (answered c) (buffered before c)
 compiles {before = before} e = answers (ap answered (sym e)) (ap (buffered before) (sym e))

@@ -1,5 +1,5 @@
 -- The last stages: the table of an accepted text becomes its file. Writing it is never refused with 30.
-use Rattle.std.specs.Prelude.{ℕ, ◌*◌, ◌≤◌, ◌<◌, ◌≡◌, Bool, false, ltb}
+use Rattle.std.specs.Prelude.{Result, Ok, Err, ℕ, ◌*◌, ◌≤◌, ◌<◌, ◌≡◌, Bool, false, ltb}
 use native.Mathlib.Omega.{arith}
 use Rattle.std.proofs.Math.Path.{refl, sym, ap}
 use Rattle.std.proofs.Common.{ap₂, ◌∙◌, subst, ltb-true, ltb-false, le-leb}
@@ -11,8 +11,7 @@ use Rattle.model.specs.Rooms.{code_room}
 use Rattle.refusals.specs.Texts.{module_of}
 use Rattle.timing.specs.Code.{code_of}
 use Rattle.file.specs.Answers.{writes, written}
-use Rattle.file.specs.declared.WriteAnswer.{WriteAnswer}
-use Rattle.file.specs.declared.WriteAnswer.TheVariants.{Wrote, Refused as WriteRefused}
+use Rattle.file.specs.declared.Refused.{Refused as Refusal}
 use Rattle.tables.specs.declared.Table.{Table as Plain}
 use Rattle.text.specs.Items.{items_of}
 use Rattle.layout.specs.Rows.{zeros}
@@ -21,8 +20,7 @@ use Rattle.filing.specs.Whole.{roles_aside, file-aside}
 use Rattle.ecode.specs.Sound.{bytes_of, Holds, holds-file}
 use Rattle.prescribed.proofs.Acceptance.{free}
 use Rattle.prescribed.specs.Tables.{table_of}
-use Rattle.prescribed.specs.declared.Compiled.{Compiled}
-use Rattle.prescribed.specs.declared.Compiled.TheVariants.{Written, Refused}
+use Rattle.prescribed.specs.Compiled.{Compiled, Written, Refused}
 use Rattle.prescribed.specs.Compiles.{file_of, in_room}
 use Rattle.prescribed.specs.Answers.{answered, buffered}
 use Rattle.accepted.specs.Accepts.{accepted}
@@ -41,9 +39,9 @@ use Rattle.coding.specs.Whole.{coded-right}
 use Rattle.tdl.specs.Stages.{Compiles, Unbroken, answers, compiles, overfull, in-room}
 
 -- the answer of the writer, a refusal at the text's end
-abbrev pub told_at : ℕ → WriteAnswer → Compiled
-told_at end (Wrote length) = Written length
-told_at end (WriteRefused number) = Refused number end
+abbrev pub told_at : ℕ → Result ℕ Refusal → Compiled
+told_at end (Ok length) = Written length
+told_at end (Err refused) = Refused refused.number end
 
 -- the arrays that a text's declarations are put into, where they begin with zeros; one more has the ports' roles
 pub record Declares (text names : List ℕ) (ports : Ports) (name sensor_names actuator_names task_names output_names types starts task_rows : List ℕ) : Type 0 where
@@ -86,7 +84,7 @@ module _ {text names : List ℕ} {rows : ℕ} (a : Unbroken text names rows)
   filed = bytes_of (roles_aside (with_code bare count heads code))
 
   -- 14, or the file
-  pub enough : {before after : List ℕ} {answer : WriteAnswer} {result : Compiled} → count ≤ code_room → result ≡ told_at (length text) answer → answer ≡ writes true filed before → after ≡ written true filed before
+  pub enough : {before after : List ℕ} {answer : Result ℕ Refusal} {result : Compiled} → count ≤ code_room → result ≡ told_at (length text) answer → answer ≡ writes true filed before → after ≡ written true filed before
       → Compiles text before result after
   unfolding file_of
   enough {before} h result told left =

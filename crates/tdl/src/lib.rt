@@ -4,7 +4,6 @@
 #![tactic(auto)]
 
 ghost use Rattle.std.specs.Prelude.{◌≡◌, length};
-ghost use Rattle.prescribed.specs.Acceptance.{Readable};
 ghost use Rattle.prescribed.specs.Compiles.{compile_of};
 ghost use Rattle.prescribed.specs.Answers.{answered, buffered};
 ghost use Rattle.kept.specs.Kept.{Kept};
@@ -12,23 +11,21 @@ ghost use Rattle.tdl.specs.Numbers.{numbers_in, numbers_of};
 ghost use Rattle.tdl.specs.Stages.{Compiles, Unbroken};
 ghost use Rattle.tdl.specs.Writings.{told_at, Declares};
 
-use file::WriteAnswer;
-use filing::Counts;
-use items::FirstPass;
 use ports::Ports;
 use prescribed::Compiled;
-use refusals::Verdict;
+use text::Refusal;
+use writing::{Arrays, Counts};
 
 // The writer's answer as the compiler's; a refusal stands at the text's end.
-fn told(answer: WriteAnswer, end: usize) -> Compiled
+fn told(answer: Result<usize, file::Refused>, end: usize) -> Compiled
     ensures { result ≡ told_at end answer }
 {
     match answer {
-        WriteAnswer::Wrote(length) => Compiled::Written(length),
-        WriteAnswer::Refused(number) => Compiled::Refused {
-            number: number,
+        Ok(length) => Ok(length),
+        Err(refused) => Err(Refusal {
+            number: refused.number,
             at: end,
-        },
+        }),
     }
 }
 
@@ -82,10 +79,10 @@ fn scheduled<'a>(
     );
     let end = text.len();
     if count > 4096 {
-        return Compiled::Refused {
+        return Err(Refusal {
             number: 13,
             at: end,
-        };
+        });
     }
     let instructions = count as u32;
     let counts = Counts {
@@ -97,24 +94,23 @@ fn scheduled<'a>(
         modes: filled.modes,
         instructions,
     };
-    let answer = ecode::arrays::write(
+    let arrays = Arrays {
         counts,
         name,
         sensor_names,
         actuator_names,
         task_names,
         output_names,
-        &mode_names,
+        mode_names: &mode_names,
         types,
         starts,
         task_rows,
-        &driver_rows,
-        &guard_rows,
-        &mode_rows,
-        &code,
-        out,
-    );
-    told(answer, end)
+        driver_rows: &driver_rows,
+        guard_rows: &guard_rows,
+        mode_rows: &mode_rows,
+        code: &code,
+    };
+    told(ecode::arrays::write(&arrays, out), end)
 }
 
 // A text that breaks no rule, by the rows of its names: its table, its code and its file.
@@ -169,39 +165,18 @@ fn translated<'a>(
     )
 }
 
-// A text that is read to its end, whose items are kept.
-fn judged<'a>(text: &'a [u8], memo: &'a [usize], out: &mut [u8]) -> Compiled
-    requires { Readable text.now × Kept text.now memo.now }
-    ensures { Compiles text.now out.old result out.new }
-{
-    let mut names = [0usize; 4672];
-    let judged = rules::judge(text, memo, &mut names);
-    let verdict = judged.verdict;
-    if let Verdict::No { number, at: place } = verdict {
-        return Compiled::Refused {
-            number: number,
-            at: place,
-        };
-    }
-    translated(text, memo, &names, judged.rows, out)
-}
-
 // The passes over a text, one after the other; the first that refuses it ends them.
 fn passes(text: &[u8], out: &mut [u8]) -> Compiled
     ensures { Compiles text.now out.old result out.new }
 {
     if text.len() > 16384 {
-        return Compiled::Refused { number: 1, at: 0 };
+        return Err(Refusal { number: 1, at: 0 });
     }
     let mut memo = [0usize; 16400];
-    let pass = kept::syntax(text, &mut memo);
-    if let FirstPass::Refused { number, at: offset } = pass {
-        return Compiled::Refused {
-            number: number,
-            at: offset,
-        };
-    }
-    judged(text, &memo, out)
+    kept::syntax(text, &mut memo)?;
+    let mut names = [0usize; 4672];
+    let rows = rules::judge(text, &memo, &mut names)?;
+    translated(text, &memo, &names, rows, out)
 }
 
 // The file of a text at the front of the buffer, or the refusal.

@@ -3,7 +3,7 @@
 // Builds on model.
 #![tactic(auto)]
 
-// White space and comments end at a place; or a block comment that starts there is not closed.
+// White space and comments end at a place; or a block comment that starts there is not closed. The definitions (`spaces_at`) answer it.
 #[derive(Clone, Copy)]
 pub enum Skipped {
     Stop(usize),
@@ -11,7 +11,7 @@ pub enum Skipped {
 }
 
 // A token: a name, a number, a sign, a keyword, the end of the text, or bytes that start no token.
-#[derive(Clone, Copy)]
+#[derive(Clone, Copy, PartialEq, Eq)]
 pub enum Token {
     Name,
     Number,
@@ -61,12 +61,19 @@ pub struct Lexed {
     pub end: usize,
 }
 
-// What was read last: where it starts and ends; or the number of a refusal, and its place.
+// What was read last: where it starts and ends; or the number of a refusal, and its place. The definitions (`want` and all that read by it) answer it, with the number as a field.
 #[derive(Clone, Copy)]
 pub struct Got {
     pub bad: u8,
     pub start: usize,
     pub end: usize,
+}
+
+// A refusal of a text: its number in document 01, and its place.
+#[derive(Clone, Copy, PartialEq, Eq)]
+pub struct Refusal {
+    pub number: u8,
+    pub at: usize,
 }
 
 // A name, or the digits of a number: the bytes from start up to end.
@@ -99,6 +106,7 @@ pub enum Literal {
     Named(Name),
 }
 
+// A value as Got, and what it is, as the definitions (`literal_at`) answer it.
 #[derive(Clone, Copy)]
 pub struct ReadLiteral {
     pub bad: u8,
@@ -107,6 +115,7 @@ pub struct ReadLiteral {
     pub literal: Literal,
 }
 
+// A port as Got, and which it is, as the definitions (`port_at`) answer it.
 #[derive(Clone, Copy)]
 pub struct ReadPort {
     pub bad: u8,

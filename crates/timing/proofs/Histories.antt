@@ -1,5 +1,5 @@
 -- Whatever is called, in any order: a dock on the module's code answers and stands as the rules say.
-use Rattle.std.specs.Prelude.{ℕ, ◌+◌, ◌-◌, ◌<◌, ◌≡◌, refl, Bool, true, false, cond, List, [], ◌∷◌, map, get_or, set, ltb, eqb}
+use Rattle.std.specs.Prelude.{ℕ, ◌+◌, ◌-◌, ◌<◌, ◌≡◌, refl, Bool, true, false, cond, List, [], ◌∷◌, map, get_or, set, ltb, eqb, Ok}
 use Rattle.std.proofs.Common.{arith, sym, ◌∙◌, ap₂, subst, ltb-true}
 use Rattle.std.proofs.Math.Option.{Option, none, some}
 use Rattle.model.specs.Clock.{elapsed, early, due, missed, judged, fits}
@@ -13,7 +13,6 @@ use Rattle.timing.specs.Standings.{handed-ready, beginning-idle}
 use Rattle.timing.specs.Calls as C
 use Rattle.timing.specs.Calls.{Ask, tick, next, finish, Reply, View, Said, lowest, remains, reading_types, result_types, answer, ask, ticked, handed, finished, start_mode, beginning, started, replies, comes}
 use Rattle.machine.specs.declared.Reaction.TheVariants.{Fault}
-use Rattle.machine.specs.declared.Finishing.TheVariants as F
 use Rattle.machine.specs.Instructions as E
 use Rattle.machine.specs.Instructions.{Res, ok, bad, Halt, Tally}
 use Rattle.timing.specs.Tasks.{absent-if}
@@ -124,7 +123,7 @@ module _ (M : Module) (W : Accepted M) where
     finish-both t types words (done y) h = same (finish t types words) 34 _ refl
     finish-both t types words running h = either M (fits (result_types M t) types words) _ _ _ _ taken (same (finish t types words) 35 _ refl)
       where
-        taken : Both M (record { reply = C.taken; view = C.stands M v (set v.place.store.tasks t (done words)) }) (record { answer = finishing F.Taken; dock = with_tasks (shadow M v pc) (set v.place.store.tasks t (done words)) })
+        taken : Both M (record { reply = C.taken; view = C.stands M v (set v.place.store.tasks t (done words)) }) (record { answer = finishing (Ok tt); dock = with_tasks (shadow M v pc) (set v.place.store.tasks t (done words)) })
         taken =
             record {
               pc = pc;

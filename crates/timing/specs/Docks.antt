@@ -1,6 +1,6 @@
 -- A dock: the machine as a whole with its tasks by their standings, its calls check for check those of the machine (document 01, 'The machine').
 -- It stands between the rules and the machine's words: a means of proof, no definition to be believed.
-use Rattle.std.specs.Prelude.{ℕ, cond, List, [], ◌∷◌, get_or, set}
+use Rattle.std.specs.Prelude.{ℕ, cond, List, [], ◌∷◌, get_or, set, Some, None, Ok, Err}
 use Rattle.std.proofs.Math.Option.{Option, none, some}
 use Rattle.model.specs.Clock.{elapsed, Instant, early, due, missed, judged, fits}
 use Rattle.model.specs.Modules.{Module}
@@ -9,8 +9,7 @@ use Rattle.timing.specs.Calls.{Ask, tick, next, finish, Reply, waits, reacted, r
 use Rattle.timing.specs.Code.{begins_of}
 use Rattle.machine.specs.declared.Reaction.{Reaction}
 use Rattle.machine.specs.declared.Reaction.TheVariants.{Obeyed, Idle, Refused, Late, Fault}
-use Rattle.machine.specs.declared.Turn.TheVariants as T
-use Rattle.machine.specs.declared.Finishing.TheVariants as F
+use Rattle.machine.specs.Told.{refuse}
 pub use Rattle.machine.specs.Asks.{Answer, ticking, turning, finishing}
 use Rattle.machine.specs.Instructions as E
 use Rattle.machine.specs.Instructions.{Res, ok, bad, Halt, Tally}
@@ -25,11 +24,11 @@ reply_to (ticking Idle) = some waits
 reply_to (ticking (Refused number)) = some (refused number)
 reply_to (ticking (Late task)) = some (fell task)
 reply_to (ticking (Fault number)) = none
-reply_to (turning (T.Task task)) = some (given (some task))
-reply_to (turning T.Nobody) = some (given none)
-reply_to (turning (T.Refused number)) = some (refused number)
-reply_to (finishing F.Taken) = some taken
-reply_to (finishing (F.Refused number)) = some (refused number)
+reply_to (turning (Ok (Some task))) = some (given (some task))
+reply_to (turning (Ok None)) = some (given none)
+reply_to (turning (Err why)) = some (refused why.number)
+reply_to (finishing (Ok _)) = some taken
+reply_to (finishing (Err why)) = some (refused why.number)
 
 -- the answer to a fault
 abbrev pub answer_to : E.Fault → Reaction
@@ -41,8 +40,8 @@ answer_to E.clash = Fault 43
 -- a call's refusal with a number
 abbrev pub refusal : Ask → ℕ → Answer
 refusal (tick count types words) number = ticking (Refused number)
-refusal next number = turning (T.Refused number)
-refusal (finish task types words) number = finishing (F.Refused number)
+refusal next number = turning (refuse number)
+refusal (finish task types words) number = finishing (refuse number)
 
 -- ---- a dock
 
@@ -98,16 +97,16 @@ module _ (M : Module) where
 
   -- next: the task handed out, or none
   abbrev pub handed_out : Dock → Option ℕ → Told
-  handed_out d none = tells d (turning T.Nobody)
-  handed_out d (some task) = record { answer = turning (T.Task task); dock = with_tasks d (set d.store.tasks task running) }
+  handed_out d none = tells d (turning (Ok None))
+  handed_out d (some task) = record { answer = turning (Ok (Some task)); dock = with_tasks d (set d.store.tasks task running) }
 
   -- finish, by the task's standing
   abbrev pub finished_by : Dock → ℕ → List ℕ → List ℕ → Standing → Told
-  finished_by d task types words idle = tells d (finishing (F.Refused 34))
-  finished_by d task types words ready = tells d (finishing (F.Refused 34))
+  finished_by d task types words idle = tells d (finishing (refuse 34))
+  finished_by d task types words ready = tells d (finishing (refuse 34))
   finished_by d task types words running =
-      cond (fits (result_types M task) types words) (record { answer = finishing F.Taken; dock = with_tasks d (set d.store.tasks task (done words)) }) (tells d (finishing (F.Refused 35)))
-  finished_by d task types words (done results) = tells d (finishing (F.Refused 34))
+      cond (fits (result_types M task) types words) (record { answer = finishing (Ok tt); dock = with_tasks d (set d.store.tasks task (done words)) }) (tells d (finishing (refuse 35)))
+  finished_by d task types words (done results) = tells d (finishing (refuse 34))
 
   -- a call, by whether the dock is stopped
   abbrev pub answered : Ask → Dock → Option E.Fault → Told

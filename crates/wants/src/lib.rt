@@ -1,200 +1,85 @@
-// Expectations: the next token of a reading, which must be a given one, and the same of a token that has been found already.
-// Promises that each function answers what text's `want` says: the token's place, an earlier refusal, or refusal 2 or 3.
+// Expectations: the token that is found, or the next one, must be a given one; its place is read, or it is refused.
+// Promises that each function answers what text's `want` says: the token's place, or refusal 2 or 3.
 // Builds on scan, text and model.
 #![tactic(auto)]
 
-ghost use Rattle.std.specs.Prelude.{◌≡◌, true, false};
+ghost use Rattle.std.specs.Prelude.{◌≡◌};
 ghost use Rattle.text.specs.declared.Token.{Token};
-ghost use Rattle.text.specs.Tokens.{is};
-ghost use Rattle.text.specs.Expect.{allow, refusal as refusal_of, want, want_word};
-ghost use Rattle.wants.specs.Given.{want_of, any_of, spelling};
+ghost use Rattle.text.specs.Expect.{from, refusal as refusal_of, want, want_word};
+ghost use Rattle.wants.specs.Given.{refusal_in, told, allowed_of, want_of, any_of, spelling};
 
-use text::{Got, Lexed, Token};
+use text::{Lexed, Name, Refusal, Token};
 
-mod keys;
 mod signs;
 
 // 2 where the bytes start no token, else 3.
-pub fn refusal(next: Lexed) -> Got
-    ensures { result ≡ refusal_of next }
+pub fn refusal(found: Lexed) -> Refusal
+    ensures { result ≡ refusal_in (refusal_of found) }
 {
-    let at = next.start;
-    let token = next.token;
-    let Token::Bad = token else {
-        return Got {
-            bad: 3,
-            start: at,
-            end: at,
-        };
-    };
-    Got {
-        bad: 2,
-        start: at,
-        end: at,
+    Refusal {
+        number: if found.token == Token::Bad { 2 } else { 3 },
+        at: found.start,
     }
 }
 
-// The next token, which may not stand here; an earlier refusal stays.
-fn refuse(g: Got, next: Lexed) -> Got
-    ensures { result ≡ allow false next g }
+// The token found, where it may stand here.
+fn allow(allowed: bool, found: Lexed) -> Result<Name, Refusal>
+    ensures { result ≡ told (allowed_of allowed found) }
 {
-    if g.bad != 0 {
-        return g;
+    if allowed {
+        Ok(Name {
+            start: found.start,
+            end: found.end,
+        })
+    } else {
+        Err(refusal(found))
     }
-    refusal(next)
-}
-
-// The next token, which may stand here; an earlier refusal stays.
-fn took(g: Got, next: Lexed) -> Got
-    ensures { result ≡ allow true next g }
-{
-    if g.bad != 0 {
-        return g;
-    }
-    Got {
-        bad: 0,
-        start: next.start,
-        end: next.end,
-    }
-}
-
-// Whether a token that was found is t.
-pub fn stands(found: Lexed, t: Token) -> bool
-    ensures { result ≡ is t found }
-{
-    let token = found.token;
-    let wanted = scan::code(t);
-    scan::code(token) == wanted
-}
-
-fn name(g: Got, found: Lexed) -> Got
-    ensures { result ≡ want_of Token.Name found g }
-{
-    let token = found.token;
-    let Token::Name = token else {
-        return refuse(g, found);
-    };
-    took(g, found)
-}
-
-fn number(g: Got, found: Lexed) -> Got
-    ensures { result ≡ want_of Token.Number found g }
-{
-    let token = found.token;
-    let Token::Number = token else {
-        return refuse(g, found);
-    };
-    took(g, found)
-}
-
-// The end of the text.
-fn end(g: Got, found: Lexed) -> Got
-    ensures { result ≡ want_of Token.End found g }
-{
-    let token = found.token;
-    let Token::End = token else {
-        return refuse(g, found);
-    };
-    took(g, found)
-}
-
-// The token found, which must be t, a token that no production expects.
-fn other(g: Got, found: Lexed, t: Token) -> Got
-    ensures { result ≡ want_of t found g }
-{
-    if stands(found, t) {
-        return took(g, found);
-    }
-    refuse(g, found)
 }
 
 // The token found, which must be t.
-pub fn given(g: Got, found: Lexed, t: Token) -> Got
-    ensures { result ≡ want_of t found g }
+pub fn given(found: Lexed, t: Token) -> Result<Name, Refusal>
+    ensures { result ≡ told (want_of t found) }
 {
-    match t {
-        Token::Name => name(g, found),
-        Token::Number => number(g, found),
-        Token::End => end(g, found),
-        Token::KeyIf => keys::key_if(g, found),
-        Token::KeyMode => keys::key_mode(g, found),
-        Token::KeyModule => keys::key_module(g, found),
-        Token::KeyTask => keys::key_task(g, found),
-        Token::KeyThen => keys::key_then(g, found),
-        Token::KeyUses => keys::key_uses(g, found),
-        _ => signs::given(g, found, t),
-    }
+    allow(found.token == t, found)
 }
 
 // The token found, whichever it is, but not the end.
-pub fn given_any(g: Got, found: Lexed) -> Got
-    ensures { result ≡ any_of found g }
+pub fn given_any(found: Lexed) -> Result<Name, Refusal>
+    ensures { result ≡ told (any_of found) }
 {
-    let token = found.token;
-    if scan::code(token) < 36 {
-        return took(g, found);
-    }
-    refuse(g, found)
+    allow(!matches!(found.token, Token::End | Token::Bad), found)
 }
 
 // The next token, which must be t.
-pub fn next(s: &[u8], g: Got, t: Token) -> Got
-    ensures { result ≡ want t s.now g }
+pub fn next(s: &[u8], at: usize, t: Token) -> Result<Name, Refusal>
+    ensures { result ≡ told (want t s.now (from at)) }
 {
-    let at = g.end;
-    if g.bad == 0 {
-        let end = signs::end_at(s, at, t);
-        if end != at {
-            return Got {
-                bad: 0,
-                start: end - 1,
-                end: end,
-            };
-        }
+    match signs::end_at(s, at, t) {
+        Some(end) => Ok(Name {
+            start: end - 1,
+            end,
+        }),
+        None => given(scan::token(s, at), t),
     }
-    let found = scan::token(s, at);
-    given(g, found, t)
-}
-
-// The next token, which must be a name.
-pub fn next_name(s: &[u8], g: Got) -> Got
-    ensures { result ≡ want Token.Name s.now g }
-{
-    let at = g.end;
-    let found = scan::token(s, at);
-    name(g, found)
-}
-
-// The token found, which must be a dot.
-pub fn given_dot(g: Got, found: Lexed) -> Got
-    ensures { result ≡ want_of Token.Dot found g }
-{
-    signs::dot(g, found)
 }
 
 // A name that was read, where it is spelt as a word; another name is 3.
-pub fn spelt(s: &[u8], name: Got, word: &[u8]) -> Got
-    ensures { result ≡ spelling word.now s.now name }
+pub fn spelt(s: &[u8], name: Name, word: &[u8]) -> Result<Name, Refusal>
+    ensures { result ≡ told (spelling word.now s.now name) }
 {
-    if name.bad != 0 {
-        return name;
-    }
-    let start = name.start;
-    let end = name.end;
-    if scan::same(s, start, end, word) {
-        return name;
-    }
-    Got {
-        bad: 3,
-        start: start,
-        end: start,
+    if scan::same(s, name.start, name.end, word) {
+        Ok(name)
+    } else {
+        Err(Refusal {
+            number: 3,
+            at: name.start,
+        })
     }
 }
 
 // The next token, which must be a name that is spelt as a word.
-pub fn word(s: &[u8], g: Got, word: &[u8]) -> Got
-    ensures { result ≡ want_word word.now s.now g }
+pub fn word(s: &[u8], at: usize, word: &[u8]) -> Result<Name, Refusal>
+    ensures { result ≡ told (want_word word.now s.now (from at)) }
 {
-    let name = next(s, g, Token::Name);
-    spelt(s, name, word)
+    spelt(s, next(s, at, Token::Name)?, word)
 }

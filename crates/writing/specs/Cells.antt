@@ -29,9 +29,13 @@ cell cells i = get_or cells i 0
 abbrev pub counted : (ℕ → List ℕ) → ℕ → (ℕ → List ℕ) → ℕ → List ℕ
 counted count room part many = count many ++ parts part (min many room)
 
+-- letters from a cell on
+abbrev pub letters_in : List ℕ → ℕ → ℕ → List ℕ
+letters_in names first many = parts (λ k. byte_of (cell names (first + k))) many
+
 -- Strings: length byte, bytes; in the row that begins at cell `row`
 unfoldable pub name_in : List ℕ → ℕ → List ℕ
-name_in names row = byte_of (cell names row) ++ parts (λ k. byte_of (cell names (row + 1 + k))) (cell names row)
+name_in names row = byte_of (cell names row) ++ letters_in names (row + 1) (cell names row)
 
 -- ---- sensors, actuators
 
@@ -124,17 +128,6 @@ function-other (suc zero) h = absurd (omega arith)
 function-other (suc (suc zero)) h = absurd (omega arith)
 function-other (suc (suc (suc zero))) h = refl
 function-other (suc (suc (suc (suc number)))) h = refl
-
--- the names of the functions in rows of 8 cells, each with its length before it
-abbrev pub function_rows : List ℕ
-function_rows = 6 ∷ 105 ∷ 115 ∷ 84 ∷ 114 ∷ 117 ∷ 101 ∷ 0 ∷ 7 ∷ 105 ∷ 115 ∷ 70 ∷ 97 ∷ 108 ∷ 115 ∷ 101 ∷ 4 ∷ 108 ∷ 101 ∷ 115 ∷ 115 ∷ 0 ∷ 0 ∷ 0 ∷ 5 ∷ 101 ∷ 113 ∷ 117 ∷ 97 ∷ 108 ∷ 0 ∷ 0 ∷ []
-
-pub function-row : (number row : ℕ) → row ≡ min number 3 → name_in function_rows (row * 8) ≡ function_in number
-unfolding name_in function_in byte_of parts
-function-row zero row e = let z : row ≡ 0 = omega arith in rw z
-function-row (suc zero) row e = let z : row ≡ 1 = omega arith in rw z
-function-row (suc (suc zero)) row e = let z : row ≡ 2 = omega arith in rw z
-function-row (suc (suc (suc number))) row e = let z : row ≡ 3 = omega arith in rw z (function-other (suc (suc (suc number))) (omega arith))
 
 -- arguments: 0 port, or 1 type and value
 unfoldable pub argument_in : ℕ → ℕ → List ℕ

@@ -1,8 +1,9 @@
 -- Bytes put into a buffer from a place on: what its end cuts off is lost, and the place behind never passes it.
-use Rattle.std.specs.Prelude.{ℕ, zero, suc, ◌+◌, ◌-◌, ◌≤◌, ◌<◌, min, ◌≡◌, refl, List, [], ◌∷◌, ◌++◌, Bool, true, false, leb, length, set, take}
-use Rattle.std.proofs.Common.{arith, add-one, sym, ap, ◌∙◌, subst, append-nil, append_assoc, length-append, length-set, leb-true, leb-false}
+use Rattle.std.specs.Prelude.{ℕ, zero, suc, ◌+◌, ◌-◌, ◌≤◌, min, ◌≡◌, refl, List, [], ◌∷◌, ◌++◌, Bool, true, false, leb, length, set, take, drop}
+use Rattle.std.proofs.Common.{arith, add-one, sym, ap, ◌∙◌, append_assoc, length-append, length-set, leb-true, leb-false}
 use Rattle.std.proofs.Math.Seq.{set_out, take-nil}
-use Rattle.layout.specs.Filling.{stored, stored-none, stored_one, stored-then, stored-both, length-stored}
+use Rattle.std.proofs.lemmas.List.Edits.{sets-eq}
+use Rattle.layout.specs.Filling.{stored, stored-none, stored-then, stored-both, length-stored}
 
 -- the place behind n bytes that are put at a place of a buffer of this length
 abbrev pub behind : ℕ → ℕ → ℕ → ℕ
@@ -24,6 +25,11 @@ stored-out : (l : List ℕ) (at : ℕ) (bytes : List ℕ) → length l ≤ at �
 stored-out l at [] h = stored-none l at
 stored-out l at (x ∷ bytes) h = stored-then l at x bytes ∙ ap (λ (m : List ℕ). stored m (at + 1) bytes) (set_out l at x h) ∙ stored-out l (at + 1) bytes (omega arith)
 
+-- cells that fit, put in from a place on
+pub stored-fits : (l : List ℕ) (at : ℕ) (cells : List ℕ) → at + length cells ≤ length l → stored l at cells ≡ take at l ++ (cells ++ drop (at + length cells) l)
+unfolding stored
+stored-fits l at cells h = sets-eq cells l at h ∙ append_assoc (take at l) cells (drop (at + length cells) l)
+
 -- what the end cuts off is lost
 pub stored_cut : (l : List ℕ) (at : ℕ) (bytes : List ℕ) → stored l at bytes ≡ stored l at (take (length l - at) bytes)
 stored_cut l at [] = ap (stored l at) (sym (take-nil (length l - at)))
@@ -42,26 +48,6 @@ stored_cut l at (x ∷ bytes) = go (leb (length l) at) refl (stored_cut (set l a
 
 pub puts_none : {l : List ℕ} {at : ℕ} → Puts l at [] l at
 puts_none {l} {at} = record { is = sym (stored-none l at); goes = omega arith }
-
-pub puts_one : {l : List ℕ} {at : ℕ} (cell : ℕ) → at < length l → Puts l at (cell ∷ []) (set l at cell) (at + 1)
-puts_one {l} {at} cell h = record { is = sym (stored_one l at cell); goes = omega arith }
-
-pub puts-two : {l : List ℕ} {at : ℕ} (a b : ℕ) → at + 2 ≤ length l → Puts l at (a ∷ b ∷ []) (set (set l at a) (at + 1) b) (at + 2)
-puts-two {l} {at} a b h = record { is = sym (stored-then l at a (b ∷ []) ∙ stored_one (set l at a) (at + 1) b); goes = omega arith }
-
-pub puts-four : {l : List ℕ} {at : ℕ} (a b c d : ℕ) → at + 4 ≤ length l
-    → Puts l at (a ∷ b ∷ c ∷ d ∷ []) (set (set (set (set l at a) (at + 1) b) (at + 2) c) (at + 3) d) (at + 4)
-puts-four {l} {at} a b c d h =
-    let two = set (set l at a) (at + 1) b in
-    let third : at + 1 + 1 ≡ at + 2 = omega arith in
-    let fourth : at + 2 + 1 ≡ at + 3 = omega arith in
-    record {
-      is =
-          sym
-          (stored-then l at a (b ∷ c ∷ d ∷ []) ∙ stored-then (set l at a) (at + 1) b (c ∷ d ∷ []) ∙ ap (λ (k : ℕ). stored two k (c ∷ d ∷ [])) third ∙ stored-then two (at + 2) c (d ∷ [])
-          ∙ ap (λ (k : ℕ). stored (set two (at + 2) c) k (d ∷ [])) fourth ∙ stored_one (set two (at + 2) c) (at + 3) d);
-      goes = omega arith;
-    }
 
 pub puts-out : {l : List ℕ} {at : ℕ} (bytes : List ℕ) → length l ≤ at → Puts l at bytes l at
 puts-out {l} {at} bytes h = record { is = sym (stored-out l at bytes h); goes = omega arith }
@@ -97,35 +83,3 @@ puts-more {k = k} part p q e = rw (e, add-one) (puts-both p q)
 pub puts-begin : {l : List ℕ} {at : ℕ} (part : ℕ → List ℕ) → Puts l at (parts part 0) l at
 unfolding parts
 puts-begin part = puts_none
-
-pub puts-as : {l m a b : List ℕ} {i j : ℕ} → a ≡ b → Puts l i a m j → Puts l i b m j
-puts-as {l} {m} {a} {b} {i} {j} e p = subst (λ (x : List ℕ). Puts l i x m j) e p
-
--- a number that is known by another name
-pub puts_of : {l m : List ℕ} {i j x y : ℕ} (f : ℕ → List ℕ) → x ≡ y → Puts l i (f x) m j → Puts l i (f y) m j
-puts_of f e p = puts-as (ap f e) p
-
--- ---- parts by fours
-
-parts_next : (part : ℕ → List ℕ) (k next : ℕ) → next ≡ k + 1 → parts part k ++ part k ≡ parts part next
-unfolding parts
-parts_next part k next e = rw (e, add-one) refl
-
-parts-step : (part : ℕ → List ℕ) (k next : ℕ) (rest : List ℕ) → next ≡ k + 1 → parts part k ++ (part k ++ rest) ≡ parts part next ++ rest
-parts-step part k next rest e = sym (append_assoc (parts part k) (part k) rest) ∙ ap (λ (x : List ℕ). x ++ rest) (parts_next part k next e)
-
--- the next four of some parts
-pub puts-four-more : {l m n : List ℕ} {i j o next : ℕ} (part : ℕ → List ℕ) (k : ℕ) → Puts l i (parts part k) m j
-    → Puts m j (part k ++ (part (k + 1) ++ (part (k + 2) ++ part (k + 3)))) n o → next ≡ k + 4 → Puts l i (parts part next) n o
-puts-four-more {next = next} part k p q e =
-    let second = parts-step part (k + 1) (k + 2) (part (k + 2) ++ part (k + 3)) (omega arith) in
-    let third = parts-step part (k + 2) (k + 3) (part (k + 3)) (omega arith) in
-    puts-as (parts-step part k (k + 1) (part (k + 1) ++ (part (k + 2) ++ part (k + 3))) refl ∙ second ∙ third ∙ parts_next part (k + 3) next (omega arith)) (puts-both p q)
-
--- the first of some parts, and the others behind them
-pub parts-both : (part : ℕ → List ℕ) (a b : ℕ) → parts part a ++ parts (λ j. part (a + j)) b ≡ parts part (a + b)
-unfolding parts
-parts-both part a zero = let e : a ≡ a + 0 = omega arith in append-nil (parts part a) ∙ ap (parts part) e
-parts-both part a (suc b) =
-    let e : suc (a + b) ≡ a + suc b = omega arith in
-    sym (append_assoc (parts part a) (parts (λ j. part (a + j)) b) (part (a + b))) ∙ ap (λ (x : List ℕ). x ++ part (a + b)) (parts-both part a b) ∙ ap (parts part) e

@@ -1,51 +1,48 @@
 // Drivers.
-ghost use Rattle.std.specs.Prelude.{◌≡◌, ◌<◌, ◌^◌};
-ghost use Rattle.writing.specs.Puts.{Puts};
+ghost use Rattle.std.specs.Prelude.{◌<◌, ◌^◌};
+ghost use Rattle.writing.specs.Wrote.{Wrote};
 ghost use Rattle.writing.specs.Cells.{sources_in, driver_at, drivers_in};
 
-use super::numbers::{byte, few, pair};
+use super::Arrays;
+use super::numbers::{Out, few};
+use tables::tag;
 
-fn sources(buffer: &mut [u8], at: usize, rows: &[u32], from: usize, many: u32) -> usize
+// The source ports from a cell on.
+fn sources(out: &mut Out<'_>, t: &Arrays<'_>, from: usize, many: u32)
     requires { from < 2 ^ 40 }
-    ensures { Puts buffer.old at (sources_in rows.now from many) buffer.new result }
+    ensures { Wrote out.old (sources_in t.now.driver_rows.now from many) out.new }
 {
-    let n = few(many, 8);
-    let mut next = byte(buffer, at, many);
-    let mut k = 0;
-    while k < n {
-        next = pair(buffer, next, cells::at32(rows, from + k));
-        k += 1;
+    out.byte(many);
+    for k in 0..few(many, 8) {
+        out.pair(cells::at32(t.driver_rows, from + k));
     }
-    next
 }
 
-fn driver(buffer: &mut [u8], at: usize, rows: &[u32], row: usize) -> usize
+fn driver(out: &mut Out<'_>, t: &Arrays<'_>, row: usize)
     requires { row < 2 ^ 32 }
-    ensures { Puts buffer.old at (driver_at rows.now row) buffer.new result }
+    ensures { Wrote out.old (driver_at t.now.driver_rows.now row) out.new }
 {
-    let tag = cells::at32(rows, row);
-    let target = cells::at32(rows, row + 1);
-    let tagged = byte(buffer, at, tag);
-    if tag == 3 {
-        let sourced = pair(buffer, tagged, cells::at32(rows, row + 3));
-        return pair(buffer, sourced, target);
+    let tag = cells::at32(t.driver_rows, row);
+    let target = cells::at32(t.driver_rows, row + 1);
+    out.byte(tag);
+    match tag {
+        tag::UPDATES => {
+            out.pair(cells::at32(t.driver_rows, row + 3));
+            out.pair(target);
+        }
+        tag::RELEASES => {
+            out.pair(target);
+            sources(out, t, row + 3, cells::at32(t.driver_rows, row + 2));
+        }
+        _ => out.pair(target),
     }
-    let aimed = pair(buffer, tagged, target);
-    if tag == 4 {
-        return sources(buffer, aimed, rows, row + 3, cells::at32(rows, row + 2));
-    }
-    aimed
 }
 
-pub fn drivers(buffer: &mut [u8], at: usize, rows: &[u32], many: u32) -> usize
-    ensures { Puts buffer.old at (drivers_in rows.now many) buffer.new result }
+pub fn drivers(out: &mut Out<'_>, t: &Arrays<'_>)
+    ensures { Wrote out.old (drivers_in t.now.driver_rows.now t.now.counts.drivers) out.new }
 {
-    let n = few(many, 288);
-    let mut next = pair(buffer, at, many);
-    let mut k = 0;
-    while k < n {
-        next = driver(buffer, next, rows, k * 12);
-        k += 1;
+    out.pair(t.counts.drivers);
+    for k in 0..few(t.counts.drivers, 288) {
+        driver(out, t, k * 12);
     }
-    next
 }

@@ -1,50 +1,44 @@
 // Guards.
-ghost use Rattle.std.specs.Prelude.{◌≡◌, ◌<◌, ◌^◌};
-ghost use Rattle.writing.specs.Puts.{Puts};
+ghost use Rattle.std.specs.Prelude.{◌<◌, ◌^◌};
+ghost use Rattle.writing.specs.Wrote.{Wrote};
 ghost use Rattle.writing.specs.Cells.{argument_in, guard_at, guards_in};
 
-use super::names::function;
-use super::numbers::{byte, few, pair, quad};
+use super::Arrays;
+use super::numbers::{Out, few};
+use tables::place;
 
-// An argument by its place, 0 port, 1 int, 2 boolean, and its word.
-fn argument(buffer: &mut [u8], at: usize, place: u32, word: u32) -> usize
-    ensures { Puts buffer.old at (argument_in place word) buffer.new result }
+// An argument by its place, and the port or the value there.
+fn argument(out: &mut Out<'_>, place: u32, word: u32)
+    ensures { Wrote out.old (argument_in place word) out.new }
 {
-    if place == 0 {
-        let tagged = byte(buffer, at, 0);
-        return pair(buffer, tagged, word);
+    if place == place::PORT {
+        out.byte(0);
+        out.pair(word);
+    } else {
+        out.byte(1);
+        out.byte(place - place::INT);
+        out.quad(word);
     }
-    let tagged = byte(buffer, at, 1);
-    let typed = byte(buffer, tagged, place - 1);
-    quad(buffer, typed, word)
 }
 
-fn guard(buffer: &mut [u8], at: usize, rows: &[u32], row: usize) -> usize
+fn guard(out: &mut Out<'_>, t: &Arrays<'_>, row: usize)
     requires { row < 2 ^ 32 }
-    ensures { Puts buffer.old at (guard_at rows.now row) buffer.new result }
+    ensures { Wrote out.old (guard_at t.now.guard_rows.now row) out.new }
 {
-    let many = cells::at32(rows, row + 1);
-    let n = few(many, 2);
-    let named = function(buffer, at, cells::at32(rows, row));
-    let mut next = byte(buffer, named, many);
-    let mut k = 0;
-    while k < n {
-        let place = cells::at32(rows, row + 2 + 2 * k);
-        next = argument(buffer, next, place, cells::at32(rows, row + 3 + 2 * k));
-        k += 1;
+    let many = cells::at32(t.guard_rows, row + 1);
+    out.function(cells::at32(t.guard_rows, row));
+    out.byte(many);
+    for k in 0..few(many, 2) {
+        let place = cells::at32(t.guard_rows, row + 2 + 2 * k);
+        argument(out, place, cells::at32(t.guard_rows, row + 3 + 2 * k));
     }
-    next
 }
 
-pub fn guards(buffer: &mut [u8], at: usize, rows: &[u32], many: u32) -> usize
-    ensures { Puts buffer.old at (guards_in rows.now many) buffer.new result }
+pub fn guards(out: &mut Out<'_>, t: &Arrays<'_>)
+    ensures { Wrote out.old (guards_in t.now.guard_rows.now t.now.counts.guards) out.new }
 {
-    let n = few(many, 256);
-    let mut next = pair(buffer, at, many);
-    let mut k = 0;
-    while k < n {
-        next = guard(buffer, next, rows, k * 6);
-        k += 1;
+    out.pair(t.counts.guards);
+    for k in 0..few(t.counts.guards, 256) {
+        guard(out, t, k * 6);
     }
-    next
 }

@@ -1,76 +1,45 @@
 // Sensors and actuators.
-ghost use Rattle.std.specs.Prelude.{◌≡◌, ◌<◌, ◌^◌};
-ghost use Rattle.writing.specs.Puts.{Puts};
+ghost use Rattle.std.specs.Prelude.{◌<◌, ◌^◌};
+ghost use Rattle.writing.specs.Wrote.{Wrote};
 ghost use Rattle.writing.specs.Cells.{sensor_in, sensors_in, actuator_in, actuators_in};
 
-use super::names::name;
-use super::numbers::{byte, few, pair, quad};
+use super::Arrays;
+use super::numbers::{Out, few};
 
-fn sensor<'a>(buffer: &mut [u8], at: usize, names: &'a [u8], types: &'a [u32], k: usize) -> usize
+fn sensor(out: &mut Out<'_>, t: &Arrays<'_>, k: usize)
     requires { k < 65536 }
-    ensures { Puts buffer.old at (sensor_in names.now types.now k) buffer.new result }
+    ensures { Wrote out.old (sensor_in t.now.sensor_names.now t.now.types.now k) out.new }
 {
-    let named = name(buffer, at, names, k * 66);
-    let typed = byte(buffer, named, cells::at32(types, k));
-    name(buffer, typed, names, k * 66 + 33)
+    out.name(t.sensor_names, k * 66);
+    out.byte(cells::at32(t.types, k));
+    out.name(t.sensor_names, k * 66 + 33);
 }
 
-pub fn sensors<'a>(
-    buffer: &mut [u8],
-    at: usize,
-    names: &'a [u8],
-    types: &'a [u32],
-    many: u32,
-) -> usize
-    ensures { Puts buffer.old at (sensors_in names.now types.now many) buffer.new result }
+pub fn sensors(out: &mut Out<'_>, t: &Arrays<'_>)
+    ensures { Wrote out.old (sensors_in t.now.sensor_names.now t.now.types.now t.now.counts.sensors) out.new }
 {
-    let n = few(many, 32);
-    let mut next = pair(buffer, at, many);
-    let mut k = 0;
-    while k < n {
-        next = sensor(buffer, next, names, types, k);
-        k += 1;
+    out.pair(t.counts.sensors);
+    for k in 0..few(t.counts.sensors, 32) {
+        sensor(out, t, k);
     }
-    next
 }
 
-fn actuator<'a>(
-    buffer: &mut [u8],
-    at: usize,
-    names: &'a [u8],
-    types: &'a [u32],
-    starts: &'a [u32],
-    from: usize,
-    k: usize,
-) -> usize
+// Actuator k, whose port is number k from port `from` on.
+fn actuator(out: &mut Out<'_>, t: &Arrays<'_>, from: usize, k: usize)
     requires { (from < 2 ^ 32) × (k < 65536) }
-    ensures { Puts buffer.old at (actuator_in names.now types.now starts.now from k) buffer.new result }
+    ensures { Wrote out.old (actuator_in t.now.actuator_names.now t.now.types.now t.now.starts.now from k) out.new }
 {
-    let port = from + k;
-    let named = name(buffer, at, names, k * 66);
-    let typed = byte(buffer, named, cells::at32(types, port));
-    let started = quad(buffer, typed, cells::at32(starts, port));
-    name(buffer, started, names, k * 66 + 33)
+    out.name(t.actuator_names, k * 66);
+    out.byte(cells::at32(t.types, from + k));
+    out.quad(cells::at32(t.starts, from + k));
+    out.name(t.actuator_names, k * 66 + 33);
 }
 
-pub fn actuators<'a>(
-    buffer: &mut [u8],
-    at: usize,
-    names: &'a [u8],
-    types: &'a [u32],
-    starts: &'a [u32],
-    from: u32,
-    many: u32,
-) -> usize
-    ensures { Puts buffer.old at (actuators_in names.now types.now starts.now from many) buffer.new result }
+pub fn actuators(out: &mut Out<'_>, t: &Arrays<'_>)
+    ensures { Wrote out.old (actuators_in t.now.actuator_names.now t.now.types.now t.now.starts.now t.now.counts.sensors t.now.counts.actuators) out.new }
 {
-    let n = few(many, 32);
-    let first = cells::wide32(from);
-    let mut next = pair(buffer, at, many);
-    let mut k = 0;
-    while k < n {
-        next = actuator(buffer, next, names, types, starts, first, k);
-        k += 1;
+    out.pair(t.counts.actuators);
+    for k in 0..few(t.counts.actuators, 32) {
+        actuator(out, t, t.counts.sensors as usize, k);
     }
-    next
 }

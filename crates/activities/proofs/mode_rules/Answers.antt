@@ -1,14 +1,11 @@
-use mathlib.Core.Path.{ap}
-use Rattle.refusals.specs.Checks.{is_fine}
-use Rattle.refusals.specs.ChecksLaws.{part-ends, part-goes}
-use borrow.Author.Rules.{rules}
+use Rattle.judging.specs.Asking.{asked-ends, asked-on}
 use Rattle.activities.proofs.mode_rules.Goals as goal
 
-pub returns-in_default : goal.returns-in_default
-returns-in_default c ix = part-ends _ _ c.start_rules-once.ensures (ap is_fine c.in_default.is)
+pub returns-in_err-start_rules : goal.returns-in_err-start_rules
+returns-in_err-start_rules c ix = asked-ends _ _ c.from_residual.ensures c.in_err-start_rules.ensures
 
-pub returns-in_default-fresh : goal.returns-in_default-fresh
-returns-in_default-fresh c ix = part-goes _ _ c.start_rules-once.ensures c.in-Fine.is (part-ends _ _ (c.new_rules-fresh.ensures ix) (ap is_fine c.in_default-fresh.is))
+pub returns-in_err-new_rules : goal.returns-in_err-new_rules
+returns-in_err-new_rules c ix = asked-on _ _ c.in_ok-start_rules.ensures (asked-ends _ _ c.from_residual-in_err-new_rules.ensures (c.in_err-new_rules.ensures ix))
 
 pub returns : goal.returns
-returns c ix = part-goes _ _ c.start_rules-once.ensures c.in-Fine.is (part-goes _ _ (c.new_rules-fresh.ensures ix) c.in-Fine-fresh.is c.period_rules.ensures)
+returns c ix = asked-on _ _ c.in_ok-start_rules.ensures (asked-on _ _ (c.in_ok-new_rules.ensures ix) c.period_rules.ensures)

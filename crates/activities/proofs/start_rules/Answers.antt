@@ -1,15 +1,12 @@
-use Rattle.refusals.specs.Checks.{first}
+use Rattle.std.proofs.Common.{◌≡◌}
+use Rattle.std.specs.Prelude.{◌&&◌}
 use Rattle.refusals.specs.Activities.{start_rules}
+use Rattle.activities.proofs.start_rules.Goals.{then-start, else-start}
 use Rattle.activities.proofs.start_rules.Goals as goal
 
-pub returns-then-started : goal.returns-then-started
-unfolding first start_rules
-returns-then-started c = simp (c.if-start.true, c.if-started.true)
+second : (c : goal.After-rule) → c.if-start.rule ≡ (c.args.start && c.args.started)
+second c = elim c.if-start.branch [ then-start w ↦ simp (w.rule-is, w.if-start.true) | else-start w ↦ simp (w.rule-is, w.if-start.false) ]
 
-pub returns-else-started : goal.returns-else-started
-unfolding first start_rules
-returns-else-started c = simp (c.if-start.true, c.if-started.false)
-
-pub returns-else-start : goal.returns-else-start
-unfolding first start_rules
-returns-else-start c = simp c.if-start.false
+pub returns : goal.returns
+unfolding start_rules
+returns c = rw (second c) at c.rule.ensures

@@ -1,7 +1,7 @@
+use Rattle.std.proofs.Common.{sym, ◌∙◌}
+use borrow.Author.Tests.{le-ltb}
 use Rattle.machine.specs.WordLaws.{has-past}
-use mathlib.Core.Path.{sym}
-use borrow.Author.Rules.{rules}
 use Rattle.bits.proofs.has.Goals as goal
 
-pub returns : goal.returns
-returns c = sym (has-past c.args.word c.args.task c.ranges.word.fits c.if-task-lt64.false)
+pub returns-else-task-lt64 : goal.returns-else-task-lt64
+returns-else-task-lt64 c = le-ltb _ 64 c.if-task-lt64.false ∙ sym (has-past c.args.word c.args.task c.ranges.word.fits c.if-task-lt64.false)

@@ -1,20 +1,10 @@
-use Rattle.bits.proofs.Shifts.{one_shifted}
-use Rattle.machine.specs.WordLaws.{has-bit, set-le, has_within}
-use mathlib.Core.Path.{sym, ◌∙◌, refl}
-use native.Mathlib.Omega.{arith}
-use borrow.Author.Rules.{rules}
+use Rattle.std.proofs.Common.{refl}
+use Rattle.machine.specs.WordLaws.{has-past}
+use Rattle.bits.proofs.Shifts.{parts}
 use Rattle.bits.proofs.part.Goals as goal
 
-pub overflow_shl-result : goal.overflow_shl-result
-overflow_shl-result c = has_within c.args.word _ c.ranges.word.fits (sym c.has.ensures ∙ c.if-has.true)
+pub returns-then-task-lt64 : goal.returns-then-task-lt64
+returns-then-task-lt64 c = parts c.args.word c.args.task c.if-task-lt64.true c.ranges.word.fits
 
-pub overflow_sub-result : goal.overflow_sub-result
-overflow_sub-result c = let a = c.args in let there = sym c.has.ensures ∙ c.if-has.true in let within = has_within a.word a.task c.ranges.word.fits there in
-    omega (arith, one_shifted a.task within, set-le a.task a.word (has-bit a.word a.task there))
-
-pub returns-then-has : goal.returns-then-has
-returns-then-has c = let a = c.args in let there = sym c.has.ensures ∙ c.if-has.true in let within = has_within a.word a.task c.ranges.word.fits there in
-    rw there (omega (arith, one_shifted a.task within))
-
-pub returns : goal.returns
-returns c = rw (sym c.has.ensures ∙ c.if-has.false) refl
+pub returns-else-task-lt64 : goal.returns-else-task-lt64
+returns-else-task-lt64 c = rw (has-past c.args.word c.args.task c.ranges.word.fits c.if-task-lt64.false) refl

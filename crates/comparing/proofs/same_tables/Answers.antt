@@ -1,19 +1,9 @@
-use mathlib.Core.Path.{refl, sym, ◌∙◌}
-use Rattle.comparing.specs.Alike.{alike}
+use Rattle.std.proofs.Common.{◌∙◌, refl}
+use Rattle.std.proofs.Math.Bool.{and_assoc}
+use Rattle.comparing.specs.Same.{pointwise-same}
+use Rattle.comparing.specs.Alike.{alike, alike_counts, alike_names, alike_ports, alike_rows}
 use Rattle.comparing.proofs.same_tables.Goals as goal
 
-pub returns-then-same_ports : goal.returns-then-same_ports
-unfolding alike
-returns-then-same_ports c = rw (sym c.same_counts.ensures ∙ c.if-same_counts.true, sym c.same_names.ensures ∙ c.if-same_names.true, sym c.same_ports.ensures ∙ c.if-same_ports.true) c.same_rows.ensures
-
-pub returns-else-same_ports : goal.returns-else-same_ports
-unfolding alike
-returns-else-same_ports c = rw (sym c.same_counts.ensures ∙ c.if-same_counts.true, sym c.same_names.ensures ∙ c.if-same_names.true, sym c.same_ports.ensures ∙ c.if-same_ports.false) refl
-
-pub returns-else-same_names : goal.returns-else-same_names
-unfolding alike
-returns-else-same_names c = rw (sym c.same_counts.ensures ∙ c.if-same_counts.true, sym c.same_names.ensures ∙ c.if-same_names.false) refl
-
-pub returns-else-same_counts : goal.returns-else-same_counts
-unfolding alike
-returns-else-same_counts c = rw (sym c.same_counts.ensures ∙ c.if-same_counts.false) refl
+pub returns : goal.returns
+unfolding alike alike_counts alike_names alike_ports alike_rows
+returns c = c.eq.ensures ∙ simp (pointwise-same, and_assoc) refl

@@ -2,7 +2,6 @@ use mathlib.Core.Path.{sym, ap, ◌∙◌}
 use Rattle.file.specs.Files.{decode}
 use Rattle.file.specs.Answers.{writes, written}
 use Rattle.ecode.specs.Sound.{back_in, unsound-refused}
-use borrow.Author.Rules.{rules}
 use Rattle.ecode.proofs.handed.Goals as goal
 
 pub returns-then-reads_back : goal.returns-then-reads_back
@@ -13,5 +12,5 @@ returns-then-reads_back c =
     let hand = c.hand in
     (hand.ensures.0 ∙ ap (λ b. writes b bytes buffer) good, hand.ensures.1 ∙ ap (λ b. written b bytes buffer) good)
 
-pub returns : goal.returns
-returns c = unsound-refused (back_in c.args.t (decode c.args.bytes.now)) c.args.bytes.now c.args.buffer.now (sym c.reads_back.ensures ∙ c.if-reads_back.false)
+pub returns-else-reads_back : goal.returns-else-reads_back
+returns-else-reads_back c = unsound-refused (back_in c.args.t.now (decode c.args.bytes.now)) c.args.bytes.now c.args.buffer.now (sym c.reads_back.ensures ∙ c.if-reads_back.false)

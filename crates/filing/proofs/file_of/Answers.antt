@@ -1,17 +1,17 @@
 use Rattle.filing.specs.Whole.{body_of, ports_of, rest_of}
 use Rattle.layout.specs.Filling.{stored}
 use Rattle.writing.specs.Cells.{quad_of}
-use Prim.Native.Nat.{◌-◌, ◌%◌}
-use mathlib.Core.Path.{ap, ◌∙◌}
-use Rattle.writing.specs.Puts as puts
-use borrow.Author.Rules.{rules}
+use Rattle.writing.specs.Wrote.{wrote-both}
+use Rattle.std.proofs.Common.{rules, sym, ap, ◌∙◌, ◌-◌, ◌%◌}
 use Rattle.filing.proofs.file_of.Goals as goal
 
 pub returns : goal.returns
 unfolding body_of ports_of rest_of
 returns c =
-    let body = puts.puts-both c.put_ports-ported.ensures (puts.puts-both c.tasks-tasked.ensures c.put_rest-end.ensures) in
+    let body = wrote-both c.put_ports.ensures (wrote-both c.tasks.ensures c.put_rest.ensures) in
+    let same_buffer = sym (c.quad.ensures.same_buffer ∙ body.same_buffer) in
+    let sized = c.quad.ensures.puts.is ∙ ap (λ b. stored b 0 (quad_of ((c.put_rest.new.out.at - 4) % 4294967296))) body.puts.is in
     record {
-      is = c.quad.ensures.is ∙ ap (λ b. stored b 0 (quad_of ((c.put_rest-end.result - 4) % 4294967296))) body.is;
-      goes = body.goes;
+      is = search (rules, same_buffer, sized);
+      goes = body.puts.goes;
     }

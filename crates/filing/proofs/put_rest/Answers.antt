@@ -1,6 +1,5 @@
-use Rattle.writing.specs.Puts as puts
-use borrow.Author.Rules.{rules}
+use Rattle.writing.specs.Wrote.{wrote-both}
 use Rattle.filing.proofs.put_rest.Goals as goal
 
 pub returns : goal.returns
-returns c = puts.puts-both c.drivers-driven.ensures (puts.puts-both c.guards-guarded.ensures (puts.puts-both c.modes-moded.ensures c.code.ensures))
+returns c = wrote-both c.drivers.ensures (wrote-both c.guards.ensures (wrote-both c.modes.ensures c.code.ensures))

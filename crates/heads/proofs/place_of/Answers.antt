@@ -1,17 +1,15 @@
-use borrow.Author.Tests.{eq-eqb, ne_eqb, lt-ltb, le-ltb, le-leb, lt-leb, eqb-true, ltb-true}
+use borrow.Author.Tests.{eq-eqb, ne_eqb}
 use Rattle.sheets.specs.Sheets.{place_of}
-use borrow.Author.Rules.{rules}
-use native.Mathlib.Omega.{arith}
 use Rattle.heads.proofs.place_of.Goals as goal
 
-pub returns-then-row-eq1 : goal.returns-then-row-eq1
+pub returns-in-0-eq1 : goal.returns-in-0-eq1
 unfolding place_of
-returns-then-row-eq1 c = simp (eq-eqb _ _ c.if-row-eq0.true, eq-eqb _ _ c.if-row-eq1.true)
+returns-in-0-eq1 c = simp (eq-eqb _ _ c.in-0-eq1.is-0, eq-eqb _ _ c.in-0-eq1.is-1)
 
-pub returns-then-row-eq0 : goal.returns-then-row-eq0
+pub returns-in-0-default : goal.returns-in-0-default
 unfolding place_of
-returns-then-row-eq0 c = simp (eq-eqb _ _ c.if-row-eq0.true, ne_eqb _ _ c.if-row-eq1.false)
+returns-in-0-default c = simp (eq-eqb _ _ c.in-0-default.is-0, ne_eqb _ _ c.in-0-default.is-1.1)
 
-pub returns : goal.returns
+pub returns-in_default : goal.returns-in_default
 unfolding place_of
-returns c = simp (ne_eqb _ _ c.if-row-eq0.false)
+returns-in_default c = simp (ne_eqb _ _ c.in_default.is-0.1)

@@ -1,7 +1,5 @@
-use borrow.Author.Tests.{eq-eqb, ne_eqb, lt-ltb, le-ltb, le-leb, lt-leb, eqb-true, ltb-true}
+use borrow.Author.Tests.{eq-eqb, ne_eqb}
 use Rattle.sheets.specs.Sheets.{with_operand}
-use borrow.Author.Rules.{rules}
-use native.Mathlib.Omega.{arith}
 use Rattle.heads.proofs.with_operand.Goals as goal
 
 pub returns-then-acting-eq0 : goal.returns-then-acting-eq0
@@ -12,6 +10,6 @@ pub returns-then-acting-eq1 : goal.returns-then-acting-eq1
 unfolding with_operand
 returns-then-acting-eq1 c = simp (ne_eqb _ _ c.if-acting-eq0.false, eq-eqb _ _ c.if-acting-eq1.true)
 
-pub returns : goal.returns
+pub returns-else-acting-eq1 : goal.returns-else-acting-eq1
 unfolding with_operand
-returns c = simp (ne_eqb _ _ c.if-acting-eq0.false, ne_eqb _ _ c.if-acting-eq1.false)
+returns-else-acting-eq1 c = simp (ne_eqb _ _ c.if-acting-eq0.false, ne_eqb _ _ c.if-acting-eq1.false)

@@ -1,22 +1,16 @@
-use mathlib.Core.Path.{◌≡◌, refl, sym, ap, ap₂, ◌∙◌, subst}
-use borrow.Author.Tests.{eq-eqb, ne_eqb, lt-ltb, le-ltb, le-leb, lt-leb, eqb-true, ltb-true}
+use Rattle.std.proofs.Common.{◌∙◌, rules}
+use borrow.Author.Tests.{eq-eqb, ne_eqb}
 use Rattle.sheets.specs.Sheets.{word_in}
-use native.Mathlib.Omega.{arith}
-use borrow.Author.Rules.{rules}
 use Rattle.heads.proofs.word_in.Goals as goal
+use Rattle.heads.proofs.word_in.Goals.{in_default-via-in-0+in_default, in_default-via-in_default}
 
-pub returns-then-row-eq1-2 : goal.returns-then-row-eq1-2
+pub returns-in-0-eq1 : goal.returns-in-0-eq1
 unfolding word_in
-returns-then-row-eq1-2 c = simp (eq-eqb _ _ c.if-row-eq0.true, eq-eqb _ _ c.if-row-eq1.true, eq-eqb _ _ c.if-row-eq1-2.true)
+returns-in-0-eq1 c = c.from.ensures ∙ simp (eq-eqb _ _ c.in-0-eq1.is-0, eq-eqb _ _ c.in-0-eq1.is-1) (search rules)
 
-pub returns-then-row-eq1 : goal.returns-then-row-eq1
+pub returns-in_default : goal.returns-in_default
 unfolding word_in
-returns-then-row-eq1 c = simp (eq-eqb _ _ c.if-row-eq0.true, eq-eqb _ _ c.if-row-eq1.true, ne_eqb _ _ c.if-row-eq1-2.false)
-
-pub returns-then-row-eq0 : goal.returns-then-row-eq0
-unfolding word_in
-returns-then-row-eq0 c = c.clamp.ensures ∙ simp (eq-eqb _ _ c.if-row-eq0.true, ne_eqb _ _ c.if-row-eq1.false)
-
-pub returns : goal.returns
-unfolding word_in
-returns c = c.clamp-2.ensures ∙ simp (ne_eqb _ _ c.if-row-eq0.false)
+returns-in_default c = elim c.in_default.branch [
+  | in_default-via-in-0+in_default w ↦ c.clamp.ensures ∙ simp (eq-eqb _ _ w.in_default.is-0, ne_eqb _ _ w.in_default.is-1.1)
+  | in_default-via-in_default w ↦ c.clamp.ensures ∙ simp (ne_eqb _ _ w.in_default.is-0.1)
+]

@@ -1,4 +1,4 @@
 use Rattle.lines.proofs.word.Goals as goal
 
 pub returns : goal.returns
-returns c = rw c.find-end.ensures.place
+returns c = rw c.find-to.ensures.place

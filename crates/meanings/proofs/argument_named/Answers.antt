@@ -7,5 +7,5 @@ pub returns-then-port : goal.returns-then-port
 unfolding argument_named
 returns-then-port c ix = (c.port_named.ensures ix) ∙ simp c.if-port.true
 
-pub returns : goal.returns
-returns c ix = (c.plain_argument.ensures ix) ∙ argument-undotted _ _ _ c.if-port.false
+pub returns-else-port : goal.returns-else-port
+returns-else-port c ix = (c.plain_argument.ensures ix) ∙ argument-undotted _ _ _ c.if-port.false

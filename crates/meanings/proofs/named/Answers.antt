@@ -7,6 +7,6 @@ pub returns-then-row-sort : goal.returns-then-row-sort
 unfolding named
 returns-then-row-sort c ix = simp (← (c.find-row.ensures ix), eq-eqb _ _ c.if-row-sort.true)
 
-pub returns : goal.returns
+pub returns-else-row-sort : goal.returns-else-row-sort
 unfolding named
-returns c ix = c.unknown.ensures ∙ simp (← (c.find-row.ensures ix), ne_eqb _ _ c.if-row-sort.false)
+returns-else-row-sort c ix = c.unknown.ensures ∙ simp (← (c.find-row.ensures ix), ne_eqb _ _ c.if-row-sort.false)

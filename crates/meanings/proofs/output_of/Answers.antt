@@ -7,6 +7,6 @@ pub returns-then-task-lt7 : goal.returns-then-task-lt7
 unfolding output_of
 returns-then-task-lt7 c ix = (c.named.ensures ix) ∙ simp (lt-ltb _ _ c.if-task-lt7.true)
 
-pub returns : goal.returns
+pub returns-else-task-lt7 : goal.returns-else-task-lt7
 unfolding output_of
-returns c ix = c.unknown.ensures ∙ simp (le-ltb _ _ c.if-task-lt7.false)
+returns-else-task-lt7 c ix = c.unknown.ensures ∙ simp (le-ltb _ _ c.if-task-lt7.false)

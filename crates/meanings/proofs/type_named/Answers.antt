@@ -1,15 +1,15 @@
-use mathlib.Core.Path.{sym, ◌∙◌}
+use mathlib.Core.Path.{sym}
 use Rattle.model.specs.Bytes.{place_in}
 use Rattle.meanings.proofs.type_named.Goals as goal
 
 pub returns-then-same : goal.returns-then-same
 unfolding place_in
-returns-then-same c = simp (sym c.same.ensures ∙ c.if-same.true)
+returns-then-same c = simp (sym c.if-same.ensures)
 
 pub returns-then-same-2 : goal.returns-then-same-2
 unfolding place_in
-returns-then-same-2 c = simp (sym c.same.ensures ∙ c.if-same.false, sym c.same-2.ensures ∙ c.if-same-2.true)
+returns-then-same-2 c = simp (sym c.if-same.ensures, sym c.if-same-2.ensures)
 
-pub returns : goal.returns
+pub returns-else-same-2 : goal.returns-else-same-2
 unfolding place_in
-returns c = simp (sym c.same.ensures ∙ c.if-same.false, sym c.same-2.ensures ∙ c.if-same-2.false)
+returns-else-same-2 c = simp (sym c.if-same.ensures, sym c.if-same-2.ensures)

@@ -11,10 +11,10 @@ use Rattle.native.proofs.native_ticks.Goals as goal
 pub returns : goal.returns
 returns c =
     let a = c.args in
-    let is_read = c.is_read-sound in
+    let is_read = c.is_read in
     c.hold.ensures
     ∙ ap (λ (m : Machine). held_of m.standing)
-    (c.ticked-last.ensures
+    (c.ticked.ensures
     ∙ ap (λ (t : Ticked). ticks_from a.later a.types.now a.words.now a.times t.machine)
     (rw is_read.ensures at c.start_on-begun.ensures.machine))
     ∙ ap (λ (r : Reading). held_of (ticks_of r a.count a.later a.times a.types.now a.words.now).standing) c.read-reading.ensures.answer

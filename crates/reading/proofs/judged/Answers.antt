@@ -1,17 +1,17 @@
-use Rattle.reading.specs.Framing as framing
 use mathlib.Core.Path.{sym, ◌∙◌}
-use native.Mathlib.Omega.{arith}
-use borrow.Author.Rules.{rules}
+use Rattle.std.proofs.lemmas.Bool.{eqb-true, eqb-false}
+use Rattle.std.proofs.lemmas.Result.{err_from_is_err_and}
+use Rattle.reading.specs.Framing as framing
 use Rattle.reading.proofs.judged.Goals as goal
 
-pub returns-then-begun-ne0 : goal.returns-then-begun-ne0
-returns-then-begun-ne0 c = c.refused.ensures ∙ framing.judged-no c.table-begun.ensures (λ e. omega arith)
+pub returns-in_err-table : goal.returns-in_err-table
+returns-in_err-table c = let (y, q, e) = err_from_is_err_and c.from_residual.result c.from_residual.ensures.1 in rw (q, e) (framing.judged-no c.in_err-table.ensures)
 
-pub returns-then-left-ne0 : goal.returns-then-left-ne0
-returns-then-left-ne0 c = c.refused-then-left-ne0.ensures ∙ framing.judged-over c.table-begun.ensures (omega arith) (λ e. omega arith)
+pub returns-then-not-is_empty : goal.returns-then-not-is_empty
+returns-then-not-is_empty c = framing.judged-over c.in_ok-table.ensures (eqb-false _ _ (sym c.if-not-is_empty.ensures))
 
 pub returns-then-good : goal.returns-then-good
-returns-then-good c = framing.judged-good c.table-begun.ensures (record { below = λ i. omega (arith, c.shared_slice_known-1.given i) }) (omega arith) (omega arith) (sym c.good.ensures ∙ c.if-good.true)
+returns-then-good c = framing.judged-good c.in_ok-table.ensures c.requires (eqb-true _ _ (sym c.if-not-is_empty.ensures)) (sym c.if-good.ensures)
 
-pub returns : goal.returns
-returns c = c.refused-2.ensures ∙ framing.judged-bad c.table-begun.ensures (record { below = λ i. omega (arith, c.shared_slice_known-1.given i) }) (omega arith) (omega arith) (sym c.good.ensures ∙ c.if-good.false)
+pub returns-else-good : goal.returns-else-good
+returns-else-good c = framing.judged-bad c.in_ok-table.ensures c.requires (eqb-true _ _ (sym c.if-not-is_empty.ensures)) (sym c.if-good.ensures)

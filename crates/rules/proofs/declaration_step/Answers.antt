@@ -1,4 +1,4 @@
-use Rattle.std.proofs.Common.{refl, arith, rules}
+use Rattle.std.proofs.Common.{refl, arith, []}
 use Rattle.refusals.specs.Checks.{first}
 use Rattle.kept.specs.Rows.{read_of}
 use Rattle.kept.specs.KeptLaws.{beyond}
@@ -17,7 +17,7 @@ pub returns-in-1 : goal.returns-in-1
 unfolding first
 returns-in-1 c = λ h state at rates tasks aims p g.
     let row = c.args.row.now in
-    turns g (read_of row) p (kind-section row c.in-1.is) (laid-nothing _ _ _ _ _ _ _ refl) (λ m. refl) refl refl (told-plain c.turned.ensures refl)
+    turns g (read_of row) p (kind-section row c.in-1.is) (laid-nothing _ _ _ _ _ _ _ refl) (λ m. refl) refl refl (told-plain {verdict = first []} refl refl)
 
 pub returns-in-2 : goal.returns-in-2
 returns-in-2 c = λ h state at rates tasks aims p g.

@@ -1,5 +1,5 @@
-use Rattle.std.proofs.Common.{refl, ap, rules}
-use Rattle.refusals.specs.Checks.{is_fine}
+use Rattle.std.proofs.Common.{sym, ◌∙◌}
+use Rattle.std.proofs.Math.Path.{refl}
 use Rattle.names.specs.Index.{empty_table}
 use Rattle.rules.specs.Going.{judges-no, judges-fine}
 use Rattle.rules.proofs.judge.Goals as goal
@@ -8,9 +8,9 @@ pub fold-outcome-requires : goal.fold-outcome-requires
 unfolding empty_table
 fold-outcome-requires c = record { no_names = refl; long-rates = refl; long-tasks = refl; long-aims = refl }
 
-pub returns-in_default : goal.returns-in_default
+pub returns-then-is_err : goal.returns-then-is_err
 unfolding empty_table
-returns-in_default c = λ kept. judges-no (c.fold-outcome.ensures kept) (ap is_fine c.in_default.is)
+returns-then-is_err c = λ kept. judges-no c.fold-outcome.new.cells c.fold-outcome.result (sym c.is_err.ensures.value ∙ c.if-is_err.true) (c.fold-outcome.ensures kept)
 
-pub returns : goal.returns
-returns c = λ kept. judges-fine (c.fold-outcome.ensures kept) c.in-Fine.is
+pub returns-else-is_err : goal.returns-else-is_err
+returns-else-is_err c = λ kept. judges-fine c.fold-outcome.new.cells c.fold-outcome.result (sym c.is_err.ensures.value ∙ c.if-is_err.false) (c.fold-outcome.ensures kept)

@@ -1,4 +1,6 @@
-use Rattle.std.proofs.Common.{sym, refl, ap, ◌∙◌, arith, rules}
+use Rattle.std.specs.Prelude.{ℕ, ◌≡◌, ◌≤◌, ◌<◌, ◌⊎◌, Bool, true, false, eqb, [], slice_index}
+use Rattle.std.proofs.lemmas.Bool.{eqb-false}
+use Rattle.std.proofs.Common.{sym, refl, ap, ◌∙◌, arith, inl, inr, ⊎_elim, eqb-true}
 use Rattle.refusals.specs.Checks.{first}
 use Rattle.kept.specs.Rows.{read_of}
 use Rattle.kept.specs.KeptLaws.{beyond}
@@ -9,13 +11,20 @@ use Rattle.rules.specs.Meets.{head-same, operand_same, call_same, input-same, up
 use Rattle.rules.specs.Going.{turns, told-plain, goes_over}
 use Rattle.rules.proofs.step.Goals as goal
 
+either-end : (kind : ℕ) → 17 ≤ kind → kind ≤ 18 → (kind ≡ 17) ⊎ (kind ≡ 18)
+either-end kind low high = by (eqb kind 17) refl
+  where
+    by : (b : Bool) → eqb kind 17 ≡ b → (kind ≡ 17) ⊎ (kind ≡ 18)
+    by true e = inl (eqb-true kind 17 e)
+    by false e = let other = eqb-false kind 17 e in inr (omega arith)
+
 pub returns-then-kind-lt9 : goal.returns-then-kind-lt9
 returns-then-kind-lt9 c = λ kept p g. c.declaration_step.ensures c.if-kind-lt9.true _ _ _ _ _ p g
 
-pub returns-in-9 : goal.returns-in-9
-returns-in-9 c = λ kept p g.
+pub returns-then-kind-eq9 : goal.returns-then-kind-eq9
+returns-then-kind-eq9 c = λ kept p g.
     let row = c.args.row.now in
-    turns g (read_of row) p (kind-mode row c.in-9.is) (laid-nothing _ _ _ _ _ _ _ refl) (λ m. rw (g.rowed.same, m.drafted.started)) refl refl (c.begun.ensures (rowed-index g.rowed))
+    turns g (read_of row) p (kind-mode row c.if-kind-eq9.true) (laid-nothing _ _ _ _ _ _ _ refl) (λ m. rw (g.rowed.same, m.drafted.started)) refl refl (c.begun.ensures (rowed-index g.rowed))
 
 pub returns-in-10 : goal.returns-in-10
 returns-in-10 c = λ kept p g.
@@ -56,15 +65,14 @@ returns-in-16 c = λ kept p g.
 
 pub returns-in-17 : goal.returns-in-17
 unfolding first
-returns-in-17 c = λ kept p g.
+returns-in-17 c =
     let row = c.args.row.now in
-    turns g (read_of row) p (kind-mode-end row c.in-17.is) (laid-nothing _ _ _ _ _ _ _ refl) (λ m. refl) refl refl (told-plain c.turned.ensures refl)
-
-pub returns-in-18 : goal.returns-in-18
-unfolding first
-returns-in-18 c = λ kept p g.
-    let row = c.args.row.now in
-    turns g (read_of row) p (kind-module-end row c.in-18.is) (laid-nothing _ _ _ _ _ _ _ refl) (λ m. refl) refl refl (told-plain c.turned-in-18.ensures refl)
+    let low : 17 ≤ slice_index row 0 = omega arith in
+    let high : slice_index row 0 ≤ 18 = omega arith in
+    λ kept p g. ⊎_elim
+    (λ e. turns g (read_of row) p (kind-mode-end row e) (laid-nothing _ _ _ _ _ _ _ refl) (λ m. refl) refl refl (told-plain {verdict = first []} refl refl))
+    (λ e. turns g (read_of row) p (kind-module-end row e) (laid-nothing _ _ _ _ _ _ _ refl) (λ m. refl) refl refl (told-plain {verdict = first []} refl refl))
+    (either-end (slice_index row 0) low high)
 
 pub returns-in-19 : goal.returns-in-19
 returns-in-19 c = λ kept p g.
@@ -72,9 +80,9 @@ returns-in-19 c = λ kept p g.
     let end = kind-end row c.in-19.is in
     rw c.ended.ensures (goes_over g (read_of row) p _ (rw (end, g.drafted.started)) (kind-stops row (omega (arith, c.in-19.is))))
 
-pub returns-else-kind-lt9 : goal.returns-else-kind-lt9
+pub returns-in_default-2 : goal.returns-in_default-2
 unfolding first
-returns-else-kind-lt9 c = λ kept p g.
+returns-in_default-2 c = λ kept p g.
     let row = c.args.row.now in
-    let last = beyond 19 (beyond 18 (beyond 17 (beyond 16 (beyond 15 (beyond 14 (beyond 13 (beyond 12 (beyond 11 (beyond 10 (beyond 9 c.if-kind-lt9.false c.in_default.in_default-own.rest.0.0.0.0.0.0.0.0.0.0.1) c.in_default.in_default-own.rest.0.0.0.0.0.0.0.0.0.1) c.in_default.in_default-own.rest.0.0.0.0.0.0.0.0.1) c.in_default.in_default-own.rest.0.0.0.0.0.0.0.1) c.in_default.in_default-own.rest.0.0.0.0.0.0.1) c.in_default.in_default-own.rest.0.0.0.0.0.1) c.in_default.in_default-own.rest.0.0.0.0.1) c.in_default.in_default-own.rest.0.0.0.1) c.in_default.in_default-own.rest.0.0.1) c.in_default.in_default-own.rest.0.1) c.in_default.in_default-own.rest.1 in
-    rw c.stopped.ensures (goes_over g (read_of row) p _ (rw (kind-no row last)) (kind-stops row (omega (arith, last))))
+    let last : 19 < slice_index row 0 = omega arith in
+    goes_over g (read_of row) p (first []) (rw (kind-no row last)) (kind-stops row (omega (arith, last)))

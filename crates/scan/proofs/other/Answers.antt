@@ -1,31 +1,27 @@
-use mathlib.Core.Path.{sym, ◌∙◌}
+use borrow.Author.Rules.{rules}
+use Rattle.std.specs.Char.{is_ascii_digit}
+use mathlib.Core.Path.{◌≡◌, sym, ◌∙◌}
+use Rattle.text.specs.Words.{digit, word_byte}
+use Rattle.scan.specs.WordBytes.{digit-ascii}
 use Rattle.scan.specs.Others as law
 use Rattle.scan.proofs.other.Goals as goal
 
-pub returns-then-is_digit : goal.returns-then-is_digit
-returns-then-is_digit c =
+pub returns-then-is_ascii_digit : goal.returns-then-is_ascii_digit
+returns-then-is_ascii_digit c =
     let args = c.args in
-    let is_digit = c.is_digit in
-    let d = sym is_digit.ensures ∙ c.if-is_digit.true in
-    c.found.ensures ∙ rw c.run_end.ensures (sym (law.starts-number args.s.now args.at args.b c.requires d))
+    c.found.ensures ∙ rw (c.run_end.ensures digit (λ b r h e. let told : r ≡ is_ascii_digit b = search rules in told ∙ digit-ascii b)) (sym (law.starts-number args.s.now args.at args.b c.requires (sym (digit-ascii args.b) ∙ sym c.if-is_ascii_digit.ensures.value)))
 
 pub returns-then-is_letter : goal.returns-then-is_letter
 returns-then-is_letter c =
     let args = c.args in
-    c.found-then-is_letter.ensures ∙ rw c.run_end-then-is_letter.ensures (sym (law.starts-name args.s.now args.at args.b c.requires (sym c.is_letter.ensures ∙ c.if-is_letter.true)))
+    c.found-then-is_letter.ensures ∙ rw (c.run_end-then-is_letter.ensures word_byte (λ b r h e. e)) (sym (law.starts-name args.s.now args.at args.b c.requires (sym c.if-is_letter.ensures)))
 
 pub returns-then-becomes : goal.returns-then-becomes
 returns-then-becomes c =
     let args = c.args in
-    let is-letter = c.is_letter in
-    let is_digit = c.is_digit in
-    let becomes = c.becomes in
-    c.found-then-becomes.ensures ∙ sym (law.starts-becomes args.s.now args.at args.b c.requires (sym is-letter.ensures ∙ c.if-is_letter.false) (sym is_digit.ensures ∙ c.if-is_digit.false) (sym becomes.ensures ∙ c.if-becomes.true))
+    c.found-then-becomes.ensures ∙ sym (law.starts-becomes args.s.now args.at args.b c.requires (sym c.if-is_letter.ensures) (sym (digit-ascii args.b) ∙ sym c.if-is_ascii_digit.ensures.value) (sym c.if-becomes.ensures))
 
-pub returns : goal.returns
-returns c =
+pub returns-else-becomes : goal.returns-else-becomes
+returns-else-becomes c =
     let args = c.args in
-    let is-letter = c.is_letter in
-    let is_digit = c.is_digit in
-    let becomes = c.becomes in
-    c.found-2.ensures ∙ sym (law.starts-bad args.s.now args.at args.b c.requires (sym is-letter.ensures ∙ c.if-is_letter.false) (sym is_digit.ensures ∙ c.if-is_digit.false) (sym becomes.ensures ∙ c.if-becomes.false))
+    c.found-else-becomes.ensures ∙ sym (law.starts-bad args.s.now args.at args.b c.requires (sym c.if-is_letter.ensures) (sym (digit-ascii args.b) ∙ sym c.if-is_ascii_digit.ensures.value) (sym c.if-becomes.ensures))

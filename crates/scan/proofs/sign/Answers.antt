@@ -1,5 +1,5 @@
 use mathlib.Core.Path.{refl}
-use borrow.Author.Tests.{ne_eqb}
+use Rattle.std.proofs.Common.{rules, tests}
 use Rattle.text.specs.Tokens.{sign_token}
 use Rattle.scan.specs.Others as law
 use Rattle.scan.proofs.sign.Goals as goal
@@ -50,4 +50,4 @@ returns-in-45 c = law.sign-is 45 (record { unlettered = refl; uncounted = refl; 
 
 pub returns-in_default : goal.returns-in_default
 unfolding sign_token
-returns-in_default c = simp (ne_eqb _ _ c.in_default.in_default-own.rest.1, ne_eqb _ _ c.in_default.in_default-own.rest.0.1, ne_eqb _ _ c.in_default.in_default-own.rest.0.0.1, ne_eqb _ _ c.in_default.in_default-own.rest.0.0.0.1, ne_eqb _ _ c.in_default.in_default-own.rest.0.0.0.0.1, ne_eqb _ _ c.in_default.in_default-own.rest.0.0.0.0.0.1, ne_eqb _ _ c.in_default.in_default-own.rest.0.0.0.0.0.0.1, ne_eqb _ _ c.in_default.in_default-own.rest.0.0.0.0.0.0.0.1, ne_eqb _ _ c.in_default.in_default-own.rest.0.0.0.0.0.0.0.0.1, ne_eqb _ _ c.in_default.in_default-own.rest.0.0.0.0.0.0.0.0.0.1, ne_eqb _ _ c.in_default.in_default-own.rest.0.0.0.0.0.0.0.0.0.0.1)
+returns-in_default c = search (rules, tests)

@@ -2,11 +2,6 @@ use mathlib.Core.Path.{refl, sym, ◌∙◌}
 use Rattle.text.specs.StartsLaws as law
 use Rattle.scan.proofs.token.Goals as goal
 
-pub starts_at-requires : goal.starts_at-requires
-starts_at-requires c =
-    let reached = rw c.in-Byte.is at c.first.ensures in
-    (reached.1, reached.2)
-
 pub returns-in-Byte : goal.returns-in-Byte
 returns-in-Byte c =
     let args = c.args in

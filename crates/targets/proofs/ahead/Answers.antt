@@ -25,15 +25,15 @@ returns-then-seen-gt18 c = λ kept.
     let past = quiet_same _ _ c.loop-place-test.true (c.to_mode-stop.ensures _ kept) in
     sym (entered _ _ _ _ c.number_of-behind.ensures.state (c.loop-place.invariant kept ∙ past.2 ∙ law.ahead-stop _ _ _ _ (read_of seen.row) past.0 seen.told (kind-stops seen.row (omega (arith, seen.kind, c.if-seen-gt18.true))) (sym (c.begins.ensures seen.row seen.kind seen.from seen.to) ∙ c.if-begins.false)))
 
-pub returns-then-next-place : goal.returns-then-next-place
-returns-then-next-place c = λ kept.
+pub returns-then-seen-place : goal.returns-then-seen-place
+returns-then-seen-place c = λ kept.
     let seen = c.look-seen.ensures.row kept in
     let past = quiet_same _ (letters c.args.s.now c.args.sought) c.loop-place-test.true (c.to_mode-stop.ensures _ kept) in
     let ahead = turn-ahead _ _ _ (read_of seen.row) past.0 seen.told (kind-goes seen.row (omega (arith, seen.kind, c.if-seen-gt18.false))) in
-    absurd (omega (arith, ahead, past.1, seen.next, c.if-next-place.true))
+    absurd (omega (arith, ahead, past.1, seen.next, c.if-seen-place.true))
 
 pub loop-place-smaller : goal.loop-place-smaller
-loop-place-smaller c = omega (arith, c.if-next-place.false, c.loop-place-test.true)
+loop-place-smaller c = omega (arith, c.if-seen-place.false, c.loop-place-test.true)
 
 pub loop-place-preserved : goal.loop-place-preserved
 loop-place-preserved c = λ kept.

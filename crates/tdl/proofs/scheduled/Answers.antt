@@ -10,4 +10,4 @@ returns-then-count-gt4096 c = too_much c.requires.0 c.requires.2 (c.planned-plan
 
 pub returns : goal.returns
 unfolding zeros
-returns c = enough c.requires.0 c.requires.2 (c.planned-plan.ensures c.requires.1 c.requires.0.indexed) c.coded-count.ensures (omega (arith, c.if-count-gt4096.false)) c.told.ensures c.write-answer.ensures.0 c.write-answer.ensures.1
+returns c = enough c.requires.0 c.requires.2 (c.planned-plan.ensures c.requires.1 c.requires.0.indexed) c.coded-count.ensures (omega (arith, c.if-count-gt4096.false)) c.told.ensures c.write.ensures.0 c.write.ensures.1

@@ -3,8 +3,8 @@ use mathlib.Core.Path.{sym, ap}
 use borrow.Author.Rules.{rules}
 use Rattle.tdl.proofs.told.Goals as goal
 
-pub returns-in-Wrote : goal.returns-in-Wrote
-returns-in-Wrote c = ap (told_at c.args.end) (sym c.in-Wrote.is)
+pub returns-in-Ok : goal.returns-in-Ok
+returns-in-Ok c = ap (told_at c.args.end) (sym c.in-Ok.is)
 
-pub returns-in-Refused : goal.returns-in-Refused
-returns-in-Refused c = ap (told_at c.args.end) (sym c.in-Refused.is)
+pub returns-in-Err : goal.returns-in-Err
+returns-in-Err c = ap (told_at c.args.end) (sym c.in-Err.is)

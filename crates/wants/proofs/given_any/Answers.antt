@@ -1,16 +1,13 @@
-use mathlib.Core.Path.{sym, ◌∙◌}
-use borrow.Author.Tests.{lt-ltb, le-ltb}
 use Rattle.wants.specs.Given.{any_of}
+use Rattle.wants.proofs.Others.{last-code, earlier-code}
+use Rattle.wants.proofs.given_any.Goals.{in-End, in_default}
 use Rattle.wants.proofs.given_any.Goals as goal
-
-pub returns-then-code-lt36 : goal.returns-then-code-lt36
-unfolding any_of
-returns-then-code-lt36 c =
-    let code = c.code in
-    c.took.ensures ∙ sym (simp (← code.ensures, lt-ltb _ _ c.if-code-lt36.true))
 
 pub returns : goal.returns
 unfolding any_of
 returns c =
-    let code = c.code in
-    c.refuse.ensures ∙ sym (simp (← code.ensures, le-ltb _ _ c.if-code-lt36.false))
+    let token = c.args.found.token in
+    elim c.match-matches.branch [
+      | in-End w ↦ rw (c.allow.ensures, w.matches-is, last-code token w.in-End.is)
+      | in_default w ↦ rw (c.allow.ensures, w.matches-is, earlier-code token w.in_default.not-End w.in_default.not-Bad)
+    ]

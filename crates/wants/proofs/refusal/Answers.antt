@@ -1,13 +1,15 @@
-use mathlib.Core.Path.{sym}
+use Rattle.std.proofs.Common.{◌∙◌, sym}
 use Rattle.text.specs.declared.Token.TheVariants as T
-use Rattle.text.specs.WantLaws as law
-use Rattle.wants.proofs.Others.{other-token}
+use Rattle.text.specs.WantLaws.{refusal-two, refusal-three}
+use Rattle.wants.proofs.Others.{same_is}
 use Rattle.wants.proofs.refusal.Goals as goal
 
-pub returns-in_default : goal.returns-in_default
-returns-in_default c = sym (law.refusal-three c.args.next (other-token T.Bad c.args.next c.in_default.not-Bad))
+pub returns-then-eq : goal.returns-then-eq
+returns-then-eq c =
+    let found = c.args.found in
+    rw (refusal-two found (sym (same_is found T.Bad) ∙ sym c.eq.ensures ∙ c.if-eq.true))
 
-pub returns : goal.returns
-returns c =
-    let args = c.args in
-    sym (law.refusal-two args.next (rw c.in-Bad.is))
+pub returns-else-eq : goal.returns-else-eq
+returns-else-eq c =
+    let found = c.args.found in
+    rw (refusal-three found (sym (same_is found T.Bad) ∙ sym c.eq.ensures ∙ c.if-eq.false))

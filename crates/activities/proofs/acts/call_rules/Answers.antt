@@ -1,41 +1,28 @@
-use mathlib.Core.Path.{ap}
-use mathlib.Core.List.{[], ◌∷◌}
-use borrow.Author.Tests.{lt-ltb, le-ltb, eq-eqb, ne_eqb}
-use Rattle.refusals.specs.Checks.{first, is_fine}
-use Rattle.refusals.specs.ChecksLaws.{part-ends, part-goes}
-use Rattle.refusals.specs.Names.{is_known, count}
-use Rattle.refusals.specs.Refusals.{long_name, not_here, wrong_number}
-use Rattle.refusals.specs.Activities.{inputs_of}
-use Rattle.names.specs.Tables.{rows_in}
-use Rattle.activities.specs.Kept.{acts_again, call_checks}
-use borrow.Author.Rules.{rules}
+use Rattle.std.specs.Prelude.{◌≡◌, ◌&&◌, not, eqb}
+use Rattle.std.proofs.Common.{lt-ltb, le-ltb}
+use Rattle.refusals.specs.Names.{is_known}
+use Rattle.activities.specs.Kept.{call_checks}
+use Rattle.activities.proofs.acts.call_rules.Goals.{then-task-lt7, else-task-lt7, then-task-lt7-2, else-task-lt7-2}
+use Rattle.judging.specs.Asking.{asked-ends, asked-on}
 use Rattle.activities.proofs.acts.call_rules.Goals as goal
 
-pub returns-in_default : goal.returns-in_default
+twice : (c : goal.After-rule-3) → c.if-task-lt7-2.rule ≡ (is_known c.args.task && c.args.again)
+twice c = elim c.if-task-lt7-2.branch [ then-task-lt7-2 w ↦ simp (w.rule-is, lt-ltb _ _ w.if-task-lt7-2.true) | else-task-lt7-2 w ↦ simp (w.rule-is, le-ltb _ _ w.if-task-lt7-2.false) ]
+
+pub returns-in_err-name_rules : goal.returns-in_err-name_rules
 unfolding call_checks
-returns-in_default c text ix = part-ends (long_name c.args.name ∷ []) _ c.name_rules-short.ensures (ap is_fine c.in_default.is)
+returns-in_err-name_rules c ix = asked-ends _ _ c.from_residual.ensures c.in_err-name_rules.ensures
 
-pub returns-then-task-eq7 : goal.returns-then-task-eq7
-unfolding first call_checks
-returns-then-task-eq7 c text ix = let args = c.args in
-    part-goes (long_name args.name ∷ []) (not_here args.task args.name ∷ wrong_number (is_known args.task) (count (inputs_of args.task) (rows_in args.cells.now args.n)) args.count args.name ∷ acts_again args.again args.task args.name ∷ []) c.name_rules-short.ensures c.in-Fine.is (simp (eq-eqb _ _ c.if-task-eq7.true))
+pub returns-in_err-rule : goal.returns-in_err-rule
+unfolding call_checks
+returns-in_err-rule c ix = asked-on _ _ c.in_ok-name_rules.ensures (asked-ends _ _ c.from_residual-in_err-rule.ensures c.in_err-rule.ensures)
 
-pub returns-then-task-ge7 : goal.returns-then-task-ge7
-unfolding first call_checks
-returns-then-task-ge7 c text ix = let args = c.args in
-    part-goes (long_name args.name ∷ []) (not_here args.task args.name ∷ wrong_number (is_known args.task) (count (inputs_of args.task) (rows_in args.cells.now args.n)) args.count args.name ∷ acts_again args.again args.task args.name ∷ []) c.name_rules-short.ensures c.in-Fine.is (simp (ne_eqb _ _ c.if-task-eq7.false, le-ltb _ _ c.if-task-ge7.true))
-
-pub returns-then-inputs-count : goal.returns-then-inputs-count
-unfolding first call_checks
-returns-then-inputs-count c text ix = let args = c.args in
-    part-goes (long_name args.name ∷ []) (not_here args.task args.name ∷ wrong_number (is_known args.task) (count (inputs_of args.task) (rows_in args.cells.now args.n)) args.count args.name ∷ acts_again args.again args.task args.name ∷ []) c.name_rules-short.ensures c.in-Fine.is (simp (ne_eqb _ _ c.if-task-eq7.false, lt-ltb _ _ c.if-task-ge7.false, ← (c.count-inputs.ensures _ ix), ne_eqb _ _ c.if-inputs-count.true))
-
-pub returns-then-again : goal.returns-then-again
-unfolding first call_checks
-returns-then-again c text ix = let args = c.args in
-    part-goes (long_name args.name ∷ []) (not_here args.task args.name ∷ wrong_number (is_known args.task) (count (inputs_of args.task) (rows_in args.cells.now args.n)) args.count args.name ∷ acts_again args.again args.task args.name ∷ []) c.name_rules-short.ensures c.in-Fine.is (simp (ne_eqb _ _ c.if-task-eq7.false, lt-ltb _ _ c.if-task-ge7.false, ← (c.count-inputs.ensures _ ix), eq-eqb _ _ c.if-inputs-count.false, c.if-again.true))
+pub returns-in_err-rule-2 : goal.returns-in_err-rule-2
+unfolding call_checks
+returns-in_err-rule-2 c ix = let miscalled : c.if-task-lt7.rule ≡ (is_known c.args.task && not (eqb c.count-inputs.result c.args.count)) = elim c.if-task-lt7.branch [ then-task-lt7 w ↦ simp (w.rule-is, lt-ltb _ _ w.if-task-lt7.true) | else-task-lt7 w ↦ simp (w.rule-is, le-ltb _ _ w.if-task-lt7.false) ] in
+    asked-on _ _ c.in_ok-name_rules.ensures (asked-on _ _ c.in_ok-rule.ensures (asked-ends _ _ c.from_residual-in_err-rule-2.ensures (rw (miscalled, c.count-inputs.ensures _ ix) at c.in_err-rule-2.ensures)))
 
 pub returns : goal.returns
-unfolding first call_checks
-returns c text ix = let args = c.args in
-    part-goes (long_name args.name ∷ []) (not_here args.task args.name ∷ wrong_number (is_known args.task) (count (inputs_of args.task) (rows_in args.cells.now args.n)) args.count args.name ∷ acts_again args.again args.task args.name ∷ []) c.name_rules-short.ensures c.in-Fine.is (simp (ne_eqb _ _ c.if-task-eq7.false, lt-ltb _ _ c.if-task-ge7.false, ← (c.count-inputs.ensures _ ix), eq-eqb _ _ c.if-inputs-count.false, c.if-again.false))
+unfolding call_checks
+returns c ix = let miscalled : c.if-task-lt7.rule ≡ (is_known c.args.task && not (eqb c.count-inputs.result c.args.count)) = elim c.if-task-lt7.branch [ then-task-lt7 w ↦ simp (w.rule-is, lt-ltb _ _ w.if-task-lt7.true) | else-task-lt7 w ↦ simp (w.rule-is, le-ltb _ _ w.if-task-lt7.false) ] in
+    asked-on _ _ c.in_ok-name_rules.ensures (asked-on _ _ c.in_ok-rule.ensures (asked-on _ _ (rw (miscalled, c.count-inputs.ensures _ ix) at c.in_ok-rule-2.ensures) (rw (twice c) at c.rule-3.ensures)))

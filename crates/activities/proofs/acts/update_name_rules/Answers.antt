@@ -1,29 +1,22 @@
-use mathlib.Core.Path.{ap}
-use mathlib.Core.List.{[], ◌∷◌}
-use borrow.Author.Tests.{lt-ltb, le-ltb, eq-eqb, ne_eqb}
-use Rattle.refusals.specs.Checks.{first, is_fine}
-use Rattle.refusals.specs.ChecksLaws.{part-ends, part-goes}
-use Rattle.refusals.specs.Refusals.{long_name, not_here}
-use Rattle.activities.specs.Kept.{acts_again, update_checks}
-use borrow.Author.Rules.{rules}
+use Rattle.std.specs.Prelude.{◌≡◌, ◌&&◌, not, eqb}
+use Rattle.std.proofs.Common.{lt-ltb, le-ltb}
+use Rattle.refusals.specs.Names.{is_known}
+use Rattle.activities.specs.Kept.{update_checks}
+use Rattle.activities.proofs.acts.update_name_rules.Goals.{then-actuator-lt7, else-actuator-lt7}
+use Rattle.judging.specs.Asking.{asked-ends, asked-on}
 use Rattle.activities.proofs.acts.update_name_rules.Goals as goal
 
-pub returns-in_default : goal.returns-in_default
+twice : (c : goal.After-rule-2) → c.if-actuator-lt7.rule ≡ (is_known c.args.actuator && c.args.again)
+twice c = elim c.if-actuator-lt7.branch [ then-actuator-lt7 w ↦ simp (w.rule-is, lt-ltb _ _ w.if-actuator-lt7.true) | else-actuator-lt7 w ↦ simp (w.rule-is, le-ltb _ _ w.if-actuator-lt7.false) ]
+
+pub returns-in_err-name_rules : goal.returns-in_err-name_rules
 unfolding update_checks
-returns-in_default c = part-ends (long_name c.args.name ∷ []) _ c.name_rules-short.ensures (ap is_fine c.in_default.is)
+returns-in_err-name_rules c = asked-ends _ _ c.from_residual.ensures c.in_err-name_rules.ensures
 
-pub returns-then-actuator-eq7 : goal.returns-then-actuator-eq7
-unfolding first update_checks
-returns-then-actuator-eq7 c = part-goes (long_name c.args.name ∷ []) (not_here c.args.actuator c.args.name ∷ acts_again c.args.again c.args.actuator c.args.name ∷ []) c.name_rules-short.ensures c.in-Fine.is (simp (eq-eqb _ _ c.if-actuator-eq7.true))
-
-pub returns-then-actuator-ge7 : goal.returns-then-actuator-ge7
-unfolding first update_checks
-returns-then-actuator-ge7 c = part-goes (long_name c.args.name ∷ []) (not_here c.args.actuator c.args.name ∷ acts_again c.args.again c.args.actuator c.args.name ∷ []) c.name_rules-short.ensures c.in-Fine.is (simp (ne_eqb _ _ c.if-actuator-eq7.false, le-ltb _ _ c.if-actuator-ge7.true))
-
-pub returns-then-again : goal.returns-then-again
-unfolding first update_checks
-returns-then-again c = part-goes (long_name c.args.name ∷ []) (not_here c.args.actuator c.args.name ∷ acts_again c.args.again c.args.actuator c.args.name ∷ []) c.name_rules-short.ensures c.in-Fine.is (simp (ne_eqb _ _ c.if-actuator-eq7.false, lt-ltb _ _ c.if-actuator-ge7.false, c.if-again.true))
+pub returns-in_err-rule : goal.returns-in_err-rule
+unfolding update_checks
+returns-in_err-rule c = asked-on _ _ c.in_ok-name_rules.ensures (asked-ends _ _ c.from_residual-in_err-rule.ensures c.in_err-rule.ensures)
 
 pub returns : goal.returns
-unfolding first update_checks
-returns c = part-goes (long_name c.args.name ∷ []) (not_here c.args.actuator c.args.name ∷ acts_again c.args.again c.args.actuator c.args.name ∷ []) c.name_rules-short.ensures c.in-Fine.is (simp (ne_eqb _ _ c.if-actuator-eq7.false, lt-ltb _ _ c.if-actuator-ge7.false, c.if-again.false))
+unfolding update_checks
+returns c = asked-on _ _ c.in_ok-name_rules.ensures (asked-on _ _ c.in_ok-rule.ensures (rw (twice c) at c.rule-2.ensures))

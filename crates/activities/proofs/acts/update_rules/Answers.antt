@@ -1,11 +1,8 @@
-use mathlib.Core.Path.{ap}
-use Rattle.refusals.specs.Checks.{is_fine}
-use Rattle.refusals.specs.ChecksLaws.{part-ends, part-goes}
-use borrow.Author.Rules.{rules}
+use Rattle.judging.specs.Asking.{asked-ends, asked-on}
 use Rattle.activities.proofs.acts.update_rules.Goals as goal
 
-pub returns-in_default : goal.returns-in_default
-returns-in_default c ix = part-ends _ _ c.update_name_rules-once.ensures (ap is_fine c.in_default.is)
+pub returns-in_err-update_name_rules : goal.returns-in_err-update_name_rules
+returns-in_err-update_name_rules c ix = asked-ends _ _ c.from_residual.ensures c.in_err-update_name_rules.ensures
 
 pub returns : goal.returns
-returns c ix = part-goes _ _ c.update_name_rules-once.ensures c.in-Fine.is (c.port_rules.ensures ix)
+returns c ix = asked-on _ _ c.in_ok-update_name_rules.ensures (c.port_rules.ensures ix)

@@ -1,17 +1,15 @@
-use mathlib.Core.Path.{sym, ◌∙◌}
-use borrow.Author.Tests.{eq-eqb, ne_eqb, lt-ltb, le-ltb}
-use Rattle.build.proofs.ByKind.{declaring-kind}
-use borrow.Author.Rules.{rules}
+use Rattle.std.proofs.Common.{sym, ◌∙◌, arith}
+use Rattle.build.proofs.ByKind.{declaring-kind, declares-none, declares-one}
 use Rattle.build.proofs.rows.declaring.Goals as goal
 
-pub returns-then-kind-gt9 : goal.returns-then-kind-gt9
-returns-then-kind-gt9 c = λ row e. sym (declaring-kind row ∙ rw e (simp (lt-ltb _ _ c.if-kind-gt9.true)))
+pub returns-in_default : goal.returns-in_default
+returns-in_default c row e = sym (declaring-kind row ∙ rw e (sym (declares-none c.args.kind (λ low high. omega arith))))
 
-pub returns-then-kind-lt2 : goal.returns-then-kind-lt2
-returns-then-kind-lt2 c = λ row e. sym (declaring-kind row ∙ rw e (simp (le-ltb _ _ c.if-kind-gt9.false, lt-ltb _ _ c.if-kind-lt2.true)))
+pub returns-in_default-2 : goal.returns-in_default-2
+returns-in_default-2 c row e = sym (declaring-kind row ∙ rw e (sym (declares-none c.args.kind (λ low high. omega arith))))
 
-pub returns-then-kind-eq8 : goal.returns-then-kind-eq8
-returns-then-kind-eq8 c = λ row e. sym (declaring-kind row ∙ rw e (simp (le-ltb _ _ c.if-kind-gt9.false, le-ltb _ _ c.if-kind-lt2.false, eq-eqb _ _ c.if-kind-eq8.true)))
+pub returns-in-2-to-7 : goal.returns-in-2-to-7
+returns-in-2-to-7 c row e = sym (declaring-kind row ∙ rw e (sym (declares-one c.args.kind (omega arith) (omega arith) (λ eight. omega arith))))
 
-pub returns : goal.returns
-returns c = λ row e. sym (declaring-kind row ∙ rw e (simp (le-ltb _ _ c.if-kind-gt9.false, le-ltb _ _ c.if-kind-lt2.false, ne_eqb _ _ c.if-kind-eq8.false)))
+pub returns-in-2-to-7-2 : goal.returns-in-2-to-7-2
+returns-in-2-to-7-2 c row e = sym (declaring-kind row ∙ rw e (sym (declares-one c.args.kind (omega arith) (omega arith) (λ eight. omega arith))))

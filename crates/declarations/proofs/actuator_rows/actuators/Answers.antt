@@ -1,19 +1,25 @@
-use borrow.Author.Rules.{rules}
 use native.Mathlib.Omega.{arith}
 use mathlib.Core.Path.{refl}
+use Rattle.codec.proofs.Lists.{list-no}
+use Rattle.fields.specs.TakingLaws as law
 use Rattle.fields.specs.RunLaws as run
 use Rattle.file.specs.Records.{actuators}
 use Rattle.declarations.proofs.actuator_rows.actuators.Goals as goal
 
+pub returns-in_err-count-clause-takes : goal.returns-in_err-count-clause-takes
+unfolding actuators
+returns-in_err-count-clause-takes c = law.takes-exit _ _ _ c.from_residual.ensures.1 (law.takes-no (list-no _ _ c.in_err-count.ensures.reads))
+
 pub loop-k-init : goal.loop-k-init
-loop-k-init c = (c.wide32-many.ensures.0, c.count-n.ensures.value_le_room, c.wide32-first.ensures.0, omega arith, refl, refl, refl, run.left-begin)
+loop-k-init c = run.left-begin
 
 pub loop-k-preserved : goal.loop-k-preserved
-loop-k-preserved c =
-    let i = c.loop-k.invariant in
-    (i.0, i.1, i.2, omega arith, search rules, search rules, search rules, run.left-more (λ a. refl) (omega arith) i.7 (rw i.2 at c.actuator-g.ensures))
+loop-k-preserved c = run.left-more (λ a. refl) (omega arith) c.loop-k.invariant c.in_ok-actuator.ensures
 
-pub returns : goal.returns
+pub returns-in_err-actuator-clause-takes : goal.returns-in_err-actuator-clause-takes
 unfolding actuators
-returns c =
-    let i = c.loop-k.invariant in record { takes = run.takes-counted-list _ c.count-n.ensures.reads (run.left_end (omega arith) i.7); count_bound = i.1 }
+returns-in_err-actuator-clause-takes c = law.takes-exit _ _ _ c.from_residual-in_err-actuator.ensures.1 (run.takes-counted-list _ c.in_ok-count.ensures.reads (run.left_out (λ a. refl) (omega arith) c.loop-k.invariant c.in_err-actuator.ensures))
+
+pub returns-clause-takes : goal.returns-clause-takes
+unfolding actuators
+returns-clause-takes c = run.takes-counted-list _ c.in_ok-count.ensures.reads (run.left_end (omega arith) c.loop-k.invariant)

@@ -1,20 +1,8 @@
-use borrow.Author.Rules.{rules}
-use native.Mathlib.Omega.{arith}
-use mathlib.Core.Path.{◌≡◌, refl, sym, ◌∙◌}
-use Rattle.layout.specs.Filling.{stored-none}
-use Rattle.declarations.specs.StoreLaws as store
+use Rattle.fields.specs.CellLaws as cells
 use Rattle.declarations.proofs.roles.mark.Goals as goal
 
-pub loop-k-init : goal.loop-k-init
-loop-k-init c = (c.wide32-n.ensures.0, omega arith, refl, sym (stored-none _ _))
+pub returns-then-from-roles : goal.returns-then-from-roles
+returns-then-from-roles c = cells.stored-same c.args.roles.now _ c.args.from c.min-end.result c.args.many c.args.role c.if-from-roles.true c.min-end.ensures (c.fill.ensures.after (λ y e. e))
 
-pub loop-k-preserved : goal.loop-k-preserved
-loop-k-preserved c =
-    let i = c.loop-k.invariant in
-    (i.0, omega arith, search rules, c.put.ensures ∙ rw i.3 (store.marked_more _ _ c.loop-k.k c.args.role))
-
-pub returns : goal.returns
-returns c =
-    let i = c.loop-k.invariant in
-    let e : c.loop-k.k ≡ c.args.many = omega arith in
-    i.3 ∙ rw e refl
+pub returns-else-from-roles : goal.returns-else-from-roles
+returns-else-from-roles c = cells.stored-nowhere c.args.roles.now _ c.args.from c.if-from-roles.false

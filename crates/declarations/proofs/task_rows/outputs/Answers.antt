@@ -1,17 +1,21 @@
-use borrow.Author.Rules.{rules}
 use native.Mathlib.Omega.{arith}
 use mathlib.Core.Path.{refl}
+use Rattle.codec.proofs.Lists.{list-no}
+use Rattle.fields.specs.TakingLaws as law
 use Rattle.fields.specs.RunLaws as run
 use Rattle.declarations.proofs.task_rows.outputs.Goals as goal
 
+pub returns-in_err-count-clause-takes : goal.returns-in_err-count-clause-takes
+returns-in_err-count-clause-takes c = law.takes-exit _ _ _ c.from_residual.ensures.1 (law.takes-no (list-no _ _ c.in_err-count.ensures.reads))
+
 pub loop-k-init : goal.loop-k-init
-loop-k-init c = (c.wide32-many.ensures.0, c.share-n.ensures.value_bound, c.wide32-first.ensures.0, omega arith, refl, refl, refl, run.left-begin)
+loop-k-init c = run.left-begin
 
 pub loop-k-preserved : goal.loop-k-preserved
-loop-k-preserved c =
-    let i = c.loop-k.invariant in
-    (i.0, i.1, i.2, omega arith, search rules, search rules, search rules, run.left-more (λ a. refl) (omega arith) i.7 (rw i.2 at c.output-g.ensures))
+loop-k-preserved c = run.left-more (λ a. refl) (omega arith) c.loop-k.invariant c.in_ok-output.ensures
 
-pub returns : goal.returns
-returns c =
-    let i = c.loop-k.invariant in record { takes = run.takes-counted-list _ c.share-n.ensures.reads (run.left_end (omega arith) i.7); count_bound = (i.1.0, omega arith) }
+pub returns-in_err-output-clause-takes : goal.returns-in_err-output-clause-takes
+returns-in_err-output-clause-takes c = law.takes-exit _ _ _ c.from_residual-in_err-output.ensures.1 (run.takes-counted-list _ c.in_ok-count.ensures.reads (run.left_out (λ a. refl) (omega arith) c.loop-k.invariant c.in_err-output.ensures))
+
+pub returns-clause-takes : goal.returns-clause-takes
+returns-clause-takes c = run.takes-counted-list _ c.in_ok-count.ensures.reads (run.left_end (omega arith) c.loop-k.invariant)

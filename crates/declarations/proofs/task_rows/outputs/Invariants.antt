@@ -1,7 +1,5 @@
 use mathlib.Core.Path.{◌≡◌}
-use Prim.Native.Nat.{◌-◌, ◌≤◌}
-use lib.ListN.{length}
-use Rattle.fields.specs.Taking.{at}
+use Rattle.codec.specs.Readings.{got}
 use Rattle.fields.specs.RunLaws as run
 use Rattle.declarations.specs.Stores as to
 use Rattle.declarations.specs.StoreLaws as store
@@ -9,7 +7,4 @@ use Rattle.file.specs.Records.{output}
 use Rattle.declarations.proofs.task_rows.outputs.Given as goal
 
 abbrev pub invariant-loop-k : goal.invariant-loop-k
-invariant-loop-k l = (l.many ≡ l.n.value) × ((l.n.value ≤ 8) × (l.n.value ≤ 128 - l.used)) × (l.first ≡ l.used) × (l.k ≤ l.many) × (length l.names ≡ length l.initial.names) × (length l.types ≡ length l.initial.types) × (length l.starts ≡ length l.initial.starts) × run.LeftMany l.s output (to.store_output l.used l.port) l.n.value l.k (at l.n.bad l.n.next (store.ported l.initial.names l.initial.types l.initial.starts)) (at l.g.bad l.g.next (store.ported l.names l.types l.starts))
-
-abbrev pub decreases-loop-k : goal.decreases-loop-k
-decreases-loop-k l = l.many - l.k
+invariant-loop-k l = run.LeftMany output (to.store_output l.used l.port) l.count l.k (got (store.ported l.initial.names l.initial.types l.initial.starts) l.initial.file.rest.now) (got (store.ported l.names l.types l.starts) l.file.rest.now)

@@ -4,7 +4,6 @@ use Rattle.file.specs.Answers.{writes, written}
 use lib.ListN.{length-replicate}
 use mathlib.Core.Bool.{true}
 use mathlib.Core.Path.{ap, ◌∙◌}
-use borrow.Author.Rules.{rules}
 use Rattle.ecode.proofs.arrays.write_aside.Goals as goal
 
 pub returns : goal.returns

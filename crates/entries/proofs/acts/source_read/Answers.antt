@@ -1,17 +1,15 @@
-use mathlib.Core.Path.{◌≡◌, refl, sym, ap, ap₂, ◌∙◌, subst}
-use borrow.Author.Tests.{eq-eqb, ne_eqb, lt-ltb, le-ltb, le-leb, lt-leb, eqb-true, ltb-true}
+use Rattle.std.proofs.Common.{◌≡◌, refl, arith}
+use borrow.Author.Tests.{eq-eqb, ne_eqb}
 use Rattle.sheets.specs.Sheets.{fed, source_read}
-use native.Mathlib.Omega.{arith}
-use borrow.Author.Rules.{rules}
 use Rattle.entries.proofs.acts.source_read.Goals as goal
 
-pub returns-then-opened-eq0 : goal.returns-then-opened-eq0
+pub returns-then-opened-gt0-clause-done : goal.returns-then-opened-gt0-clause-done
 unfolding fed source_read
-returns-then-opened-eq0 c ix = record { kept = simp (eq-eqb _ _ c.if-opened-eq0.true); row = simp (eq-eqb _ _ c.if-opened-eq0.true) }
+returns-then-opened-gt0-clause-done c ix all =
+    rw (ne_eqb c.args.arrays.now.plan.opened.calls 0 (λ e. omega (arith, c.if-opened-gt0.true)), c.source.ensures, c.clamp-number.ensures, c.port_named.ensures ix, c.saturating_add.ensures) refl
 
-pub returns : goal.returns
+pub returns-else-opened-gt0-clause-done : goal.returns-else-opened-gt0-clause-done
 unfolding fed source_read
-returns c ix = record {
-  kept = simp (ne_eqb _ _ c.if-opened-eq0.false) (rw (c.counted-opened.ensures, c.more-sources.ensures) refl);
-  row = c.source.ensures ∙ simp (ne_eqb _ _ c.if-opened-eq0.false) (rw (c.wide32.ensures.0, c.wide32-2.ensures.0, c.wide32-3.ensures.0, c.clamp-number.ensures, c.port_named-row.ensures ix) refl);
-}
+returns-else-opened-gt0-clause-done c ix all =
+    let none : c.args.arrays.now.plan.opened.calls ≡ 0 = omega (arith, c.if-opened-gt0.false) in
+    rw (eq-eqb c.args.arrays.now.plan.opened.calls 0 none) refl

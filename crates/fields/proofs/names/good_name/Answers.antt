@@ -1,18 +1,8 @@
-use mathlib.Core.Path.{sym, ap, ◌∙◌}
-use lib.Dec.{eqb}
-use lib.ListN.{length}
-use Rattle.text.specs.Tokens.{code_of}
 use Rattle.fields.specs.WholeNames as names
 use Rattle.fields.proofs.names.good_name.Goals as goal
 
-pub returns-then-code-ne0 : goal.returns-then-code-ne0
-returns-then-code-ne0 c = names.other-token c.args.word.now (λ z. c.if-code-ne0.true (c.code.ensures ∙ ap (λ x. code_of x.token) c.token-lexed.ensures ∙ z))
-
-pub returns-then-lexed-ne0 : goal.returns-then-lexed-ne0
-returns-then-lexed-ne0 c = names.later-token c.args.word.now (λ z. c.if-lexed-ne0.true (ap (λ x. x.start) c.token-lexed.ensures ∙ z))
+pub returns-then-ne : goal.returns-then-ne
+returns-then-ne c = names.unnamed c.args.word.now c.token-lexed.result c.token-lexed.ensures c.ne.ensures c.then-ne.either
 
 pub returns : goal.returns
-returns c =
-    let e = c.token-lexed.ensures in
-    ap (λ x. eqb x.end (length c.args.word.now)) e
-    ∙ names.same-token c.args.word.now (sym (ap (λ x. code_of x.token) e) ∙ sym c.code.ensures ∙ c.if-code-ne0.false) (sym (ap (λ x. x.start) e) ∙ c.if-lexed-ne0.false)
+returns c = names.named c.args.word.now c.token-lexed.result c.token-lexed.ensures c.if-ne.ensures c.if-lexed-ne0.false

@@ -1,25 +1,12 @@
-use mathlib.Core.Path.{ap}
-use borrow.Author.Tests.{eq-eqb}
-use Rattle.text.specs.Items.{mode_body_at}
 use Rattle.text.specs.declared.Token.TheVariants as T
-use Rattle.text.specs.Tokens.{code_of}
-use Rattle.wants.proofs.Others.{other-token}
+use Rattle.wants.proofs.Others.{same-token, other-token}
+use Rattle.items.specs.Bodies.{mode-body-told}
 use Rattle.items.proofs.modes.body.Goals as goal
 
-pub section-requires : goal.section-requires
-section-requires c = c.token-found.ensures
+pub returns-in-LeftBracket : goal.returns-in-LeftBracket
+returns-in-LeftBracket c = rw (← mode-body-told c.args.s.now c.args.at c.args.k, ← c.token-found.ensures, same-token T.LeftBracket c.token-found.result c.in-LeftBracket.is) c.head.ensures
 
 pub returns-in_default : goal.returns-in_default
-unfolding mode_body_at
 returns-in_default c =
-    let token = c.token-found in
-    simp (← token.ensures, ← c.of_mode-w.ensures, ← c.section.ensures, other-token T.LeftBracket token.result c.in_default.not-LeftBracket)
-
-pub head-requires : goal.head-requires
-head-requires c = c.token-found.ensures
-
-pub returns : goal.returns
-unfolding mode_body_at
-returns c =
-    let token = c.token-found in
-    simp (← token.ensures, ← c.head.ensures, eq-eqb _ 4 (ap code_of c.in-LeftBracket.is))
+    rw (← mode-body-told c.args.s.now c.args.at c.args.k, ← c.token-found.ensures, other-token T.LeftBracket c.token-found.result c.in_default.not-LeftBracket)
+    c.section.ensures

@@ -1,8 +1,5 @@
-use Rattle.text.specs.Items.{finish_at}
+use Rattle.items.specs.Bodies.{finish-told}
 use Rattle.items.proofs.modules.finish.Goals as goal
 
 pub returns : goal.returns
-unfolding finish_at
-returns c =
-    let next = c.next-last in
-    simp (← next.ensures, ← c.close.ensures)
+returns c = rw (← finish-told c.args.s.now c.args.at, ← c.token.ensures, ← c.token-2.ensures) c.close.ensures

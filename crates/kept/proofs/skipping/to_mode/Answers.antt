@@ -10,11 +10,5 @@ loop-item-init c = λ s kept. here
 pub loop-item-preserved : goal.loop-item-preserved
 loop-item-preserved c = λ s kept.
     let loop = c.loop-item in
-    let below : loop.item < get_or c.args.memo.now 0 0 = omega (arith, c.held-rows.ensures, c.loop-item-test.true) in
-    skip-on loop.item kept below (c.is_quiet.ensures c.if-is_quiet.true) (loop.invariant s kept)
-
-pub returns-after-loop-item : goal.returns-after-loop-item
-returns-after-loop-item c = c.loop-item.invariant
-
-pub returns-else-is_quiet : goal.returns-else-is_quiet
-returns-else-is_quiet c = c.loop-item.invariant
+    let below : loop.item < get_or c.args.memo.now 0 0 = omega (arith, c.held-item-end.ensures, c.loop-item-test.true) in
+    skip-on loop.item kept below (c.is_quiet.ensures c.if-not-is_quiet.false) (loop.invariant s kept)

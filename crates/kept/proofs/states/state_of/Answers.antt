@@ -10,27 +10,27 @@ returns-in-0 c = rw c.in-0.is
 
 pub returns-in-1 : goal.returns-in-1
 unfolding state_of
-returns-in-1 c = rw (c.in-1.is, c.narrow-section.ensures)
+returns-in-1 c = rw c.in-1.is
 
 pub returns-in-2 : goal.returns-in-2
 unfolding state_of
-returns-in-2 c = rw (c.in-2.is, c.narrow-section.ensures)
+returns-in-2 c = rw c.in-2.is
 
 pub returns-in-3 : goal.returns-in-3
 unfolding state_of
-returns-in-3 c = rw (c.in-3.is, c.narrow-section.ensures)
+returns-in-3 c = rw c.in-3.is
 
 pub returns-in-4 : goal.returns-in-4
 unfolding state_of
-returns-in-4 c = rw (c.in-4.is, c.narrow-section.ensures)
+returns-in-4 c = rw c.in-4.is
 
 pub returns-in-5 : goal.returns-in-5
 unfolding state_of
-returns-in-5 c = rw (c.in-5.is, c.narrow-section.ensures)
+returns-in-5 c = rw c.in-5.is
 
 pub returns-in-6 : goal.returns-in-6
 unfolding state_of
-returns-in-6 c = rw (c.in-6.is, c.narrow-section.ensures)
+returns-in-6 c = rw c.in-6.is
 
 pub returns-in-7 : goal.returns-in-7
 unfolding state_of

@@ -1,32 +1,7 @@
 use mathlib.Core.Path.{refl}
-use lib.ListN.{length-set}
 use Rattle.kept.specs.KeptLaws.{whole}
-use native.Mathlib.Omega.{arith}
+use Rattle.kept.specs.Cells.{value_back}
 use Rattle.kept.proofs.storing.constant.Goals as goal
 
-pub bounds-row-5 : goal.bounds-row-5
-bounds-row-5 c = simp length-set (omega arith)
-
-pub bounds-row-6 : goal.bounds-row-6
-bounds-row-6 c = simp length-set (omega arith)
-
-pub bounds-row-7 : goal.bounds-row-7
-bounds-row-7 c = simp length-set (omega arith)
-
-pub bounds-row-8 : goal.bounds-row-8
-bounds-row-8 c = simp length-set (omega arith)
-
-pub bounds-row-9 : goal.bounds-row-9
-bounds-row-9 c = simp length-set (omega arith)
-
-pub bounds-row-10 : goal.bounds-row-10
-bounds-row-10 c = simp length-set (omega arith)
-
-pub bounds-row-11 : goal.bounds-row-11
-bounds-row-11 c = simp length-set (omega arith)
-
-pub shape_of-row : goal.shape_of-row
-shape_of-row c = simp length-set
-
 pub returns : goal.returns
-returns c = rw (whole c.args.row.now c.requires) (refl, refl, c.value_of-value.ensures)
+returns c = rw (c.put_value.ensures, c.put_name.ensures, whole c.args.row.now c.requires) (refl, refl, value_back c.args.value)

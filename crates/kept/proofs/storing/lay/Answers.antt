@@ -35,7 +35,7 @@ pub returns-in-ModeBegin : goal.returns-in-ModeBegin
 returns-in-ModeBegin c = rw c.in-ModeBegin.is (record { told = rw (kind-mode c.mode.new.row c.mode.ensures.0, c.mode.ensures.1, c.mode.ensures.2, c.mode.ensures.3, c.mode.ensures.4, c.mode.ensures.5); kind = c.mode.ensures.0; name = c.mode.ensures.3 })
 
 pub returns-in-Activity : goal.returns-in-Activity
-returns-in-Activity c = rw c.in-Activity.is (record { told = rw (kind-activity c.activity.new.row c.activity.ensures.0, c.activity.ensures.1, c.activity.ensures.2, c.activity.ensures.3); kind = c.activity.ensures.0; name = c.activity.ensures.3 })
+returns-in-Activity c = rw c.in-Activity.is (record { told = rw (kind-activity c.placed.new.row c.placed.ensures.0, c.placed.ensures.1, c.placed.ensures.2, c.placed.ensures.3); kind = c.placed.ensures.0; name = c.placed.ensures.3 })
 
 pub returns-in-Guard : goal.returns-in-Guard
 returns-in-Guard c = rw c.in-Guard.is (record { told = rw (kind-guard c.counted.new.row c.counted.ensures.0, c.counted.ensures.1, c.counted.ensures.2); kind = c.counted.ensures.0; name = c.counted.ensures.1 })
@@ -65,4 +65,4 @@ pub returns-in-End : goal.returns-in-End
 returns-in-End c = rw c.in-End.is (record { told = rw (kind-end c.plain-in-End.new.row c.plain-in-End.ensures.0); kind = c.plain-in-End.ensures.0; name = c.plain-in-End.ensures.1 })
 
 pub returns-in-No : goal.returns-in-No
-returns-in-No c = rw c.in-No.is (record { told = rw (kind-no c.refused.new.row (omega (arith, c.refused.ensures.0)), c.refused.ensures.2, c.refused.ensures.3); kind = c.refused.ensures.0; name = c.refused.ensures.1 })
+returns-in-No c = rw c.in-No.is (record { told = rw (kind-no c.placed-in-No.new.row (omega (arith, c.placed-in-No.ensures.0)), c.placed-in-No.ensures.1, c.placed-in-No.ensures.2); kind = c.placed-in-No.ensures.0; name = c.placed-in-No.ensures.3 })

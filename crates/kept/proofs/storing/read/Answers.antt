@@ -20,4 +20,4 @@ pub returns : goal.returns
 returns c =
     let row = c.lay.new.row in
     let long : length row ≡ 16 = omega (arith, c.row-1.given, c.requires) in
-    laid_by c.args.before row c.item-read.result c.number_of-behind.result long c.state_of-state.ensures c.item-read.ensures c.lay.ensures (c.number_of-behind.ensures.number, c.number_of-behind.ensures.state)
+    laid_by c.args.before row c.item-read.result c.number_of-number.result long c.state_of.ensures c.item-read.ensures c.lay.ensures (c.number_of-number.ensures.number, c.number_of-number.ensures.state)

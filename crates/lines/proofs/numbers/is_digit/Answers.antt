@@ -1,15 +1,18 @@
-use mathlib.Core.Path.{sym, ◌∙◌}
-use Rattle.lines.specs.Numbers.{digit_in}
+use Rattle.std.proofs.Common.{arith}
+use Rattle.lines.specs.NumbersLaws as law
 use Rattle.lines.proofs.numbers.is_digit.Goals as goal
 
-pub returns-then-between : goal.returns-then-between
-unfolding digit_in
-returns-then-between c = simp (sym c.between.ensures ∙ c.if-between.true)
+pub returns-in-48-to-57 : goal.returns-in-48-to-57
+returns-in-48-to-57 c = law.digit-plain _ _ (omega arith) (omega arith)
 
-pub returns-then-hex : goal.returns-then-hex
-unfolding digit_in
-returns-then-hex c = c.between-then-hex.ensures ∙ simp (sym c.between.ensures ∙ c.if-between.false, c.if-hex.true)
+pub returns-in-97-to-102 : goal.returns-in-97-to-102
+returns-in-97-to-102 c = law.digit-letter _ _ (omega arith) (omega arith)
 
-pub returns : goal.returns
-unfolding digit_in
-returns c = simp (sym c.between.ensures ∙ c.if-between.false, c.if-hex.false)
+pub returns-in_default : goal.returns-in_default
+returns-in_default c = law.digit-other _ _ (λ h. omega arith) (λ h. omega arith)
+
+pub returns-in_default-2 : goal.returns-in_default-2
+returns-in_default-2 c = law.digit-other _ _ (λ h. omega arith) (λ h. omega arith)
+
+pub returns-in_default-3 : goal.returns-in_default-3
+returns-in_default-3 c = law.digit-other _ _ (λ h. omega arith) (λ h. omega arith)

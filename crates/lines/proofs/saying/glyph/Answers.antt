@@ -1,11 +1,9 @@
-use borrow.Author.Tests.{lt-ltb, le-ltb}
-use Rattle.lines.specs.Sayings.{glyph_of}
+use Rattle.std.proofs.Common.{arith}
+use Rattle.lines.specs.SayingsLaws.{glyph-digit, glyph-letter}
 use Rattle.lines.proofs.saying.glyph.Goals as goal
 
-pub returns-then-d-lt10 : goal.returns-then-d-lt10
-unfolding glyph_of
-returns-then-d-lt10 c = simp (lt-ltb _ _ c.if-d-lt10.true)
+pub returns-in-0-to-9 : goal.returns-in-0-to-9
+returns-in-0-to-9 c = glyph-digit _ (omega arith)
 
-pub returns : goal.returns
-unfolding glyph_of
-returns c = simp (le-ltb _ _ c.if-d-lt10.false)
+pub returns-in_default : goal.returns-in_default
+returns-in_default c = glyph-letter _ (omega arith)

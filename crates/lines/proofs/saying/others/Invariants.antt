@@ -5,6 +5,3 @@ use Rattle.lines.proofs.saying.others.Given as goal
 
 abbrev pub invariant-loop-k : goal.invariant-loop-k
 invariant-loop-k l = Still l.initial.out l.at (values_behind l.types l.words 1 (l.many - 1)) l.out l.next (values_behind l.types l.words l.k (l.many - l.k))
-
-abbrev pub decreases-loop-k : goal.decreases-loop-k
-decreases-loop-k l = l.many - l.k

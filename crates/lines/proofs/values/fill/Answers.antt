@@ -8,7 +8,7 @@ loop-at-init c = (omega arith, omega arith, filling-begins _ _ _)
 pub loop-at-preserved : goal.loop-at-preserved
 loop-at-preserved c =
     let step = pieces_step _ _ _ c.loop-at-test.true c.find-end.ensures in
-    let value = rw c.cut.ensures at c.one-found.ensures in
+    let value = rw (c.one.ensures, c.cut.ensures) at c.unwrap_or-value.ensures in
     (omega arith, omega arith, rw (c.put32.ensures, c.put32-in-loop-at.ensures, value) (filling-on _ _ (rw step at c.loop-at.invariant.2)))
 
 pub returns : goal.returns

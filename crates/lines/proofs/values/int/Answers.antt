@@ -1,14 +1,15 @@
-use mathlib.Core.Path.{sym, ap, ◌∙◌}
-use borrow.Author.Tests.{eq-eqb, ne_eqb}
-use Rattle.lines.specs.Values.{negative_of, positive_of, int_in}
-use Rattle.lines.specs.Numbers.{number_of}
-use Rattle.lines.specs.Parts.{part-behind}
+use Rattle.std.proofs.Common.{sym, ◌∙◌}
+use Rattle.lines.specs.ValuesLaws as law
 use Rattle.lines.proofs.values.int.Goals as goal
 
-pub returns-then-at8-eq45 : goal.returns-then-at8-eq45
-unfolding int_in
-returns-then-at8-eq45 c = c.negative.ensures ∙ ap negative_of (c.decimal.ensures ∙ ap number_of (part-behind 2 c.args.word.now)) ∙ simp (eq-eqb _ _ (sym c.at8.ensures ∙ c.if-at8-eq45.true))
+pub returns-in_ok-decimal : goal.returns-in_ok-decimal
+returns-in_ok-decimal c = rw c.negative.ensures (law.int-minus _ (sym c.at8.ensures ∙ c.if-at8-eq45.true) _ c.in_ok-decimal.ensures)
 
-pub returns : goal.returns
-unfolding int_in
-returns c = c.positive.ensures ∙ ap positive_of (c.decimal-2.ensures ∙ ap number_of (part-behind 1 c.args.word.now)) ∙ simp (ne_eqb _ _ (λ e. c.if-at8-eq45.false (c.at8.ensures ∙ e)))
+pub returns-in_err-decimal : goal.returns-in_err-decimal
+returns-in_err-decimal c = c.from_residual.ensures ∙ law.int-minus-none _ (sym c.at8.ensures ∙ c.if-at8-eq45.true) c.in_err-decimal.ensures
+
+pub returns-in_ok-decimal-2 : goal.returns-in_ok-decimal-2
+returns-in_ok-decimal-2 c = rw c.positive.ensures (law.int-plus _ (λ e. c.if-at8-eq45.false (c.at8.ensures ∙ e)) _ c.in_ok-decimal-2.ensures)
+
+pub returns-in_err-decimal-2 : goal.returns-in_err-decimal-2
+returns-in_err-decimal-2 c = c.from_residual-in_err-decimal-2.ensures ∙ law.int-plus-none _ (λ e. c.if-at8-eq45.false (c.at8.ensures ∙ e)) c.in_err-decimal-2.ensures

@@ -1,20 +1,13 @@
-use mathlib.Core.Path.{◌∙◌}
-use borrow.Author.Tests.{not-true, not-false, eq-eqb, ne_eqb, lt-leb, le-leb}
-use Rattle.lines.specs.Values.{negative_of}
+use native.Mathlib.Omega.{arith}
+use Rattle.std.proofs.Common.{◌∙◌}
+use Rattle.lines.specs.ValuesLaws.{negative-none, negative-fits, negative-over}
 use Rattle.lines.proofs.values.negative.Goals as goal
 
-pub returns-then-not-n : goal.returns-then-not-n
-unfolding negative_of
-returns-then-not-n c = c.none.ensures ∙ simp (not-true c.args.n.good c.if-not-n.true)
+pub returns-in-0 : goal.returns-in-0
+returns-in-0 c = c.int.ensures ∙ negative-none _ c.in-0.is
 
-pub returns-then-n-eq0 : goal.returns-then-n-eq0
-unfolding negative_of
-returns-then-n-eq0 c = simp (not-false c.args.n.good c.if-not-n.false, eq-eqb _ _ c.if-n-eq0.true)
+pub returns-in-1-to-2147483648 : goal.returns-in-1-to-2147483648
+returns-in-1-to-2147483648 c = c.int-in-1-to-2147483648.ensures ∙ negative-fits _ (omega arith) (omega arith)
 
-pub returns-then-n-le2147483648 : goal.returns-then-n-le2147483648
-unfolding negative_of
-returns-then-n-le2147483648 c = simp (not-false c.args.n.good c.if-not-n.false, ne_eqb _ _ c.if-n-eq0.false, le-leb _ _ c.if-n-le2147483648.true)
-
-pub returns : goal.returns
-unfolding negative_of
-returns c = simp (not-false c.args.n.good c.if-not-n.false, ne_eqb _ _ c.if-n-eq0.false, lt-leb _ _ c.if-n-le2147483648.false)
+pub returns-in_default : goal.returns-in_default
+returns-in_default c = negative-over _ (omega arith)

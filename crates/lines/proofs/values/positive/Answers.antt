@@ -1,16 +1,12 @@
-use mathlib.Core.Path.{◌∙◌}
-use borrow.Author.Tests.{not-true, not-false, lt-ltb, le-ltb}
+use borrow.Author.Tests.{lt-ltb, le-ltb}
+use Rattle.std.proofs.Common.{◌∙◌}
 use Rattle.lines.specs.Values.{positive_of}
 use Rattle.lines.proofs.values.positive.Goals as goal
 
-pub returns-then-not-n : goal.returns-then-not-n
+pub returns-then-size-lt2147483648 : goal.returns-then-size-lt2147483648
 unfolding positive_of
-returns-then-not-n c = c.none.ensures ∙ simp (not-true c.args.n.good c.if-not-n.true)
+returns-then-size-lt2147483648 c = c.int.ensures ∙ simp (lt-ltb _ _ c.if-size-lt2147483648.true)
 
-pub returns-then-n-lt2147483648 : goal.returns-then-n-lt2147483648
+pub returns-else-size-lt2147483648 : goal.returns-else-size-lt2147483648
 unfolding positive_of
-returns-then-n-lt2147483648 c = simp (not-false c.args.n.good c.if-not-n.false, lt-ltb _ _ c.if-n-lt2147483648.true)
-
-pub returns : goal.returns
-unfolding positive_of
-returns c = simp (not-false c.args.n.good c.if-not-n.false, le-ltb _ _ c.if-n-lt2147483648.false)
+returns-else-size-lt2147483648 c = simp (le-ltb _ _ c.if-size-lt2147483648.false)

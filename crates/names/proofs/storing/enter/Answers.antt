@@ -1,41 +1,18 @@
-use Rattle.names.specs.Index.{with_row, chain_of}
+use Rattle.names.specs.Index.{with_row, chain_of, numbers}
+use Prim.Native.Nat.{◌+◌, ◌-◌, ◌*◌}
+use mathlib.Core.Path.{◌≡◌}
 use native.Mathlib.Numerals.{towards_suc}
-use Rattle.std.proofs.Common.{arith, length-set}
+use borrow.Rule.Slice.PartMut.{put_mid, Post-is}
+use Rattle.std.proofs.Common.{arith, append_assoc}
+use Rattle.std.proofs.lemmas.List.Edits.{sets, sets-eq}
 use Rattle.names.proofs.storing.enter.Goals as goal
-
-pub bounds-cells-first-2 : goal.bounds-cells-first-2
-bounds-cells-first-2 c = simp length-set (omega arith)
-
-pub bounds-cells-first-3 : goal.bounds-cells-first-3
-bounds-cells-first-3 c = simp length-set (omega arith)
-
-pub bounds-cells-first-4 : goal.bounds-cells-first-4
-bounds-cells-first-4 c = simp length-set (omega arith)
-
-pub bounds-cells-first-5 : goal.bounds-cells-first-5
-bounds-cells-first-5 c = simp length-set (omega arith)
-
-pub bounds-cells-first-6 : goal.bounds-cells-first-6
-bounds-cells-first-6 c = simp length-set (omega arith)
-
-pub bounds-cells-first-7 : goal.bounds-cells-first-7
-bounds-cells-first-7 c = simp length-set (omega arith)
-
-pub bounds-cells-first-8 : goal.bounds-cells-first-8
-bounds-cells-first-8 c = simp length-set (omega arith)
-
-pub bounds-cells-place : goal.bounds-cells-place
-bounds-cells-place c = simp length-set (omega arith)
-
-pub bounds-cells-chain-2 : goal.bounds-cells-chain-2
-bounds-cells-chain-2 c = simp length-set (omega arith)
-
-pub bounds-cells-0 : goal.bounds-cells-0
-bounds-cells-0 c = simp length-set (omega arith)
-
-pub shape_of-cells : goal.shape_of-cells
-shape_of-cells c = simp length-set
 
 pub returns : goal.returns
 unfolding with_row chain_of
-returns c = rw (c.link_place-place.ensures.0, c.least-last.ensures, c.chain_of-chain.ensures.0, c.key_in-key.ensures) (simp towards_suc)
+returns c =
+    let cells = c.args.cells.now in
+    let first = c.args.n * 8 + 1280 in
+    let row = numbers c.args.row c.key_of-key.result in
+    let behind = Post-is first (first + 8) cells (omega arith) in
+    let put : put_mid first (first + 8 - first) cells row ≡ sets cells first row = rw (behind, sets-eq row cells first (omega arith), append_assoc) in
+    rw (c.copy_from_slice.ensures.after, put, c.link_place-place.ensures.0, c.min-last.ensures, c.chain_of-chain.ensures.0, c.key_of-key.ensures, c.part.ensures) (simp towards_suc)

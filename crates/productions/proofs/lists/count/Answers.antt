@@ -1,12 +1,7 @@
-use mathlib.Core.Path.{sym, ◌∙◌}
+use Rattle.std.proofs.Common.{sym, ◌∙◌, ap, eq-eqb}
+use Rattle.text.specs.Tokens.{code_of}
 use Rattle.productions.specs.Counted.{past-name}
 use Rattle.productions.proofs.lists.count.Goals as goal
 
-pub returns-then-stands : goal.returns-then-stands
-returns-then-stands c =
-    let pre = c.requires in
-    let stands = c.stands in
-    c.counted.ensures ∙ sym (past-name _ _ _ pre (sym stands.ensures ∙ c.if-stands.true))
-
-pub returns : goal.returns
-returns c = c.counted-2.ensures
+pub returns-in-Name : goal.returns-in-Name
+returns-in-Name c = c.counted.ensures ∙ sym (past-name _ _ _ c.requires (eq-eqb _ _ (ap code_of c.in-Name.is)))

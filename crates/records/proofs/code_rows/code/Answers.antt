@@ -1,25 +1,27 @@
-use borrow.Author.Rules.{rules}
 use native.Mathlib.Omega.{arith}
-use mathlib.Core.Path.{◌≡◌, refl}
-use Prim.Native.Nat.{◌-◌, ◌≤◌}
-use lib.ListN.{length}
-use Rattle.fields.specs.Taking.{at}
+use mathlib.Core.Path.{refl}
+use Rattle.codec.proofs.Lists.{list-no}
+use Rattle.fields.specs.TakingLaws as law
 use Rattle.fields.specs.RunLaws as run
 use Rattle.records.specs.Stores as to
-use Rattle.file.specs.Parts.{count}
-use Rattle.file.specs.Code.{instruction, code}
+use Rattle.file.specs.Code.{code}
 use Rattle.records.proofs.code_rows.code.Goals as goal
 
+pub returns-in_err-count-clause-takes : goal.returns-in_err-count-clause-takes
+unfolding code
+returns-in_err-count-clause-takes c = law.takes-exit _ _ _ c.from_residual.ensures.1 (law.takes-no (list-no _ _ c.in_err-count.ensures.reads))
+
 pub loop-k-init : goal.loop-k-init
-loop-k-init c = (c.wide32-many.ensures.0, c.count-n.ensures.value_le_room, omega arith, refl, run.left-begin)
+loop-k-init c = run.left-begin
 
 pub loop-k-preserved : goal.loop-k-preserved
 unfolding to.store_instruction
-loop-k-preserved c =
-    let i = c.loop-k.invariant in
-    (i.0, i.1, omega arith, search rules, run.left-more (λ a. refl) (omega arith) i.4 c.instruction-g.ensures)
+loop-k-preserved c = run.left-more (λ a. refl) (omega arith) c.loop-k.invariant c.in_ok-instruction.ensures
 
-pub returns : goal.returns
+pub returns-in_err-instruction-clause-takes : goal.returns-in_err-instruction-clause-takes
+unfolding code to.store_instruction
+returns-in_err-instruction-clause-takes c = law.takes-exit _ _ _ c.from_residual-in_err-instruction.ensures.1 (run.takes-counted-list _ c.in_ok-count.ensures.reads (run.left_out (λ a. refl) (omega arith) c.loop-k.invariant c.in_err-instruction.ensures))
+
+pub returns-clause-takes : goal.returns-clause-takes
 unfolding code
-returns c =
-    let i = c.loop-k.invariant in record { takes = run.takes-counted-list _ c.count-n.ensures.reads (run.left_end (omega arith) i.4); count_bound = i.1 }
+returns-clause-takes c = run.takes-counted-list _ c.in_ok-count.ensures.reads (run.left_end (omega arith) c.loop-k.invariant)

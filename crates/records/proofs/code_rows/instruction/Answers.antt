@@ -1,7 +1,6 @@
-use borrow.Author.Rules.{rules}
-use mathlib.Core.Path.{refl, ap, ◌∙◌}
+use mathlib.Core.Path.{refl, sym, ap, ◌∙◌}
 use mathlib.Core.List.{[], ◌∷◌}
-use Prim.Native.Nat.{◌-◌}
+use Rattle.codec.proofs.Sequences.{dep-got}
 use Rattle.layout.specs.Filling.{stored}
 use Rattle.fields.specs.TakingLaws as law
 use Rattle.fields.specs.CellLaws as cells
@@ -14,10 +13,11 @@ unfolding instruction triple
 returns c =
     let l = c.args.rows.now in
     let place = c.args.place in
-    let o = c.opcode-o.result.value in
-    let a = c.first-a.result.value in
+    let o = c.in_ok-opcode.opcode in
+    let a = c.in_ok-first.first in
+    let b = c.in_ok-second.second in
+    let p = dep-got _ _ _ c.in_ok-opcode.ensures (dep-got _ _ _ c.in_ok-first.ensures c.in_ok-second.ensures) in
     law.takes-shape _ _ _
-    (law.takes-in-read (λ y. y) (λ b x rest p. ap (λ t. stored l place (t.0 ∷ t.1.0 ∷ t.1.1 ∷ [])) (store.triple-read _ x rest p)) refl
-    (law.takes-by _ _ _ {store = λ x m. stored m place (x.0 ∷ x.1.0 ∷ x.1.1 ∷ [])} (λ b. refl) c.opcode-o.ensures
-    (law.takes-by _ _ _ {store = λ x m. stored m place (o ∷ x.0 ∷ x.1 ∷ [])} (λ b. refl) c.first-a.ensures
-    (law.takes-put (λ v m. stored m place (o ∷ a ∷ v ∷ [])) (c.put32-3.ensures ∙ rw (c.put32-2.ensures, c.put32.ensures) (cells.cells-three l place o a _)) c.second-b.ensures))))
+    (law.takes-got {a = (o, (a, b))} p
+    (c.put32-3.ensures ∙ rw (c.put32-2.ensures, c.put32.ensures) (cells.cells-three l place o a b)
+    ∙ sym (ap (λ t. stored l place (t.0 ∷ t.1.0 ∷ t.1.1 ∷ [])) (store.triple-read _ (o, (a, b)) _ p))))

@@ -1,28 +1,24 @@
-use borrow.Author.Rules.{rules}
-use mathlib.Core.Path.{◌≡◌, ap, ◌∙◌}
-use mathlib.Core.List.{List}
-use Prim.Native.Nat.{ℕ, ◌-◌}
+use mathlib.Core.Path.{ap, ◌∙◌}
+use native.Mathlib.Omega.{arith}
+use Prim.Native.Nat.{ℕ}
+use Rattle.codec.specs.Readings.{got}
+use Rattle.fields.specs.TakingLaws as law
 use Rattle.fields.specs.RunLaws as run
-use Rattle.codec.specs.Readings.{got, no}
-use Rattle.codec.specs.Numbers.{byte}
-use Rattle.file.specs.Code.{updating, releasing, terminating, driver_rest, driver_of, driver}
+use Rattle.file.specs.Code.{updating, releasing, terminating, driver_rest, driver_of}
 use Rattle.file.proofs.Tagged.{driver-no, driver-bad, driver-on}
 use Rattle.records.proofs.driver_rows.driver.Goals as goal
 
-none : (bs : List ℕ) (e : ℕ) → byte.get bs ≡ no e → driver.get bs ≡ no e
-none bs e p = driver-no bs p
+pub returns-in_err-byte : goal.returns-in_err-byte
+returns-in_err-byte c = law.takes-exit _ _ _ c.from_residual.ensures.1 (law.takes-no (driver-no _ c.in_err-byte.ensures))
 
-pub returns-then-t-ne0 : goal.returns-then-t-ne0
-returns-then-t-ne0 c = run.takes-no-tag byte driver none c.if-t-ne0.true c.byte-t.ensures.reads
+pub returns-in-3 : goal.returns-in-3
+returns-in-3 c = run.takes-tag (driver_rest updating) (driver_of updating) (driver-on _ updating (c.in_ok-byte.ensures ∙ ap (λ (v : ℕ). got v c.byte.new.self.rest.now) c.in-3.is)) c.update.ensures
 
-pub returns-then-tag-eq3 : goal.returns-then-tag-eq3
-returns-then-tag-eq3 c = run.takes-tag byte driver none (driver_rest updating) (driver_of updating) (λ bs z p. driver-on bs updating (p ∙ ap (λ (v : ℕ). got v z) c.if-tag-eq3.true)) c.byte-t.ensures.reads c.update.ensures
+pub returns-in-4 : goal.returns-in-4
+returns-in-4 c = run.takes-tag (driver_rest releasing) (driver_of releasing) (driver-on _ releasing (c.in_ok-byte.ensures ∙ ap (λ (v : ℕ). got v c.byte.new.self.rest.now) c.in-4.is)) c.release.ensures
 
-pub returns-then-tag-eq4 : goal.returns-then-tag-eq4
-returns-then-tag-eq4 c = run.takes-tag byte driver none (driver_rest releasing) (driver_of releasing) (λ bs z p. driver-on bs releasing (p ∙ ap (λ (v : ℕ). got v z) c.if-tag-eq4.true)) c.byte-t.ensures.reads c.release.ensures
+pub returns-in-5 : goal.returns-in-5
+returns-in-5 c = run.takes-tag (driver_rest terminating) (driver_of terminating) (driver-on _ terminating (c.in_ok-byte.ensures ∙ ap (λ (v : ℕ). got v c.byte.new.self.rest.now) c.in-5.is)) c.terminate.ensures
 
-pub returns-then-tag-eq5 : goal.returns-then-tag-eq5
-returns-then-tag-eq5 c = run.takes-tag byte driver none (driver_rest terminating) (driver_of terminating) (λ bs z p. driver-on bs terminating (p ∙ ap (λ (v : ℕ). got v z) c.if-tag-eq5.true)) c.byte-t.ensures.reads c.terminate.ensures
-
-pub returns : goal.returns
-returns c = run.takes-bad-tag byte driver none (λ bs r p. driver-bad bs p c.if-tag-eq3.false c.if-tag-eq4.false c.if-tag-eq5.false) c.if-t-ne0.false c.byte-t.ensures.reads
+pub returns-in_default : goal.returns-in_default
+returns-in_default c = law.takes-no (driver-bad _ c.in_ok-byte.ensures (λ e. omega arith) (λ e. omega arith) (λ e. omega arith))

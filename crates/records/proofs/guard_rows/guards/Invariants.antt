@@ -1,17 +1,10 @@
-use borrow.Author.Rules.{rules}
-use native.Mathlib.Omega.{arith}
-use mathlib.Core.Path.{◌≡◌, refl}
-use Prim.Native.Nat.{◌-◌, ◌≤◌}
-use lib.ListN.{length}
-use Rattle.fields.specs.Taking.{at}
+use mathlib.Core.List.{List}
+use Prim.Native.Nat.{ℕ}
+use Rattle.codec.specs.Readings.{got}
 use Rattle.fields.specs.RunLaws as run
 use Rattle.records.specs.Stores as to
-use Rattle.file.specs.Parts.{count}
-use Rattle.file.specs.Code.{guard, guards}
+use Rattle.file.specs.Code.{guard}
 use Rattle.records.proofs.guard_rows.guards.Given as goal
 
 abbrev pub invariant-loop-k : goal.invariant-loop-k
-invariant-loop-k l = (l.many ≡ l.n.value) × (l.n.value ≤ 256) × (l.k ≤ l.many) × (length l.rows ≡ length l.initial.rows) × run.LeftMany l.s guard to.store_guard l.n.value l.k (at l.n.bad l.n.next l.initial.rows) (at l.g.bad l.g.next l.rows)
-
-abbrev pub decreases-loop-k : goal.decreases-loop-k
-decreases-loop-k l = l.many - l.k
+invariant-loop-k l = run.LeftMany guard to.store_guard l.count l.k (got l.initial.rows l.initial.file.rest.now) (got l.rows l.file.rest.now)

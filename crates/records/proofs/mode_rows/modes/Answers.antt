@@ -1,25 +1,26 @@
-use borrow.Author.Rules.{rules}
 use native.Mathlib.Omega.{arith}
-use mathlib.Core.Path.{◌≡◌, refl}
-use mathlib.Core.List.{List}
-use Prim.Native.Nat.{ℕ, ◌-◌, ◌≤◌}
-use lib.ListN.{length}
-use Rattle.fields.specs.Taking.{at}
+use mathlib.Core.Path.{refl}
+use Rattle.codec.proofs.Lists.{list-no}
+use Rattle.fields.specs.TakingLaws as law
 use Rattle.fields.specs.RunLaws as run
 use Rattle.records.specs.Stores as to
-use Rattle.file.specs.Parts.{count}
-use Rattle.file.specs.Code.{mode, modes}
+use Rattle.file.specs.Code.{modes}
 use Rattle.records.proofs.mode_rows.modes.Goals as goal
 
+pub returns-in_err-count-clause-takes : goal.returns-in_err-count-clause-takes
+unfolding modes
+returns-in_err-count-clause-takes c = law.takes-exit _ _ _ c.from_residual.ensures.1 (law.takes-no (list-no _ _ c.in_err-count.ensures.reads))
+
 pub loop-k-init : goal.loop-k-init
-loop-k-init c = (c.wide32-many.ensures.0, c.count-n.ensures.value_le_room, omega arith, refl, refl, run.left-begin)
+loop-k-init c = run.left-begin
 
 pub loop-k-preserved : goal.loop-k-preserved
-loop-k-preserved c =
-    let i = c.loop-k.invariant in
-    (i.0, i.1, omega arith, search rules, search rules, run.left-more (λ a. refl) (omega arith) i.5 c.mode-g.ensures)
+loop-k-preserved c = run.left-more (λ a. refl) (omega arith) c.loop-k.invariant c.in_ok-mode.ensures
 
-pub returns : goal.returns
+pub returns-in_err-mode-clause-takes : goal.returns-in_err-mode-clause-takes
 unfolding modes
-returns c =
-    let i = c.loop-k.invariant in record { takes = run.takes-counted-list _ c.count-n.ensures.reads (run.left_end (omega arith) i.5); count_bound = i.1 }
+returns-in_err-mode-clause-takes c = law.takes-exit _ _ _ c.from_residual-in_err-mode.ensures.1 (run.takes-counted-list _ c.in_ok-count.ensures.reads (run.left_out (λ a. refl) (omega arith) c.loop-k.invariant c.in_err-mode.ensures))
+
+pub returns-clause-takes : goal.returns-clause-takes
+unfolding modes
+returns-clause-takes c = run.takes-counted-list _ c.in_ok-count.ensures.reads (run.left_end (omega arith) c.loop-k.invariant)

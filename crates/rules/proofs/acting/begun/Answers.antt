@@ -1,25 +1,20 @@
-use Rattle.std.proofs.Common.{◌≡◌, ℕ, sym, refl, ap, ◌∙◌, arith, rules}
+use Rattle.std.specs.Prelude.{ℕ, ◌≡◌}
+use Rattle.std.proofs.Common.{arith, ap, ◌∙◌}
+use Rattle.std.proofs.Math.Path.{refl}
 use Rattle.refusals.specs.Checks.{is_fine}
+use Rattle.judging.specs.Asking.{asked-all}
+use Rattle.rules.specs.Going.{told-broken}
 use Rattle.rules.proofs.acting.begun.Goals as goal
 
-pub returns-in_default : goal.returns-in_default
-returns-in_default c = λ ix.
-    let judged = rw (c.first_name-name.ensures, c.third_name-digits.ensures) at (c.mode_rules-verdict.ensures ix) in
-    let stops = ap is_fine (sym judged ∙ c.in_default.is) in
-    record {
-      count = c.args.n;
-      tells = c.turned.ensures ∙ rw (judged, c.begun-next.ensures, c.third_name-digits.ensures);
-      broken = λ f. (refl, refl);
-      entered = λ fine. let z : ◌≡◌ {A = ℕ} 0 1 = cc (sym (ap is_fine fine) ∙ stops) in absurd (omega arith);
-    }
+pub returns-in_err-mode_rules : goal.returns-in_err-mode_rules
+returns-in_err-mode_rules c ix = told-broken c.from_residual.ensures (rw (c.first_name-name.ensures, c.third_name-digits.ensures) at c.in_err-mode_rules.ensures ix)
 
 pub returns : goal.returns
-returns c = λ ix.
-    let judged = rw (c.first_name-name.ensures, c.third_name-digits.ensures) at (c.mode_rules-verdict.ensures ix) in
-    let fine = sym judged ∙ c.in-Fine.is in
+returns c ix =
+    let fine = rw (c.first_name-name.ensures, c.third_name-digits.ensures) at c.in_ok-mode_rules.ensures ix in
     record {
-      count = c.mode_entered-rows.result;
-      tells = c.turned-2.ensures ∙ rw (fine, c.begun-next.ensures, c.third_name-digits.ensures);
-      broken = λ f. let z : ◌≡◌ {A = ℕ} 0 1 = cc (sym (ap is_fine fine) ∙ f) in absurd (omega arith);
-      entered = λ f. rw (← c.first_name-name.ensures) (c.mode_entered-rows.ensures ix _ _ _ _);
+      count = c.mode_entered.result;
+      tells = rw (c.begun.ensures, c.third_name-digits.ensures) (asked-all fine);
+      broken = λ f. let z : ◌≡◌ {A = ℕ} 0 1 = cc (ap is_fine fine ∙ f) in absurd (omega arith);
+      entered = λ f. rw (← c.first_name-name.ensures) (c.mode_entered.ensures ix _ _ _ _);
     }

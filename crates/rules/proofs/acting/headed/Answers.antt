@@ -1,5 +1,8 @@
-use Rattle.std.proofs.Common.{◌∙◌, rules}
+use Rattle.judging.specs.Asking.{asked-none, asked-all}
 use Rattle.rules.proofs.acting.headed.Goals as goal
 
+pub returns-in_err-head_rules : goal.returns-in_err-head_rules
+returns-in_err-head_rules c = asked-none _ c.from_residual.ensures (rw (c.front.ensures, c.section.ensures, c.first_name-digits.ensures) at c.in_err-head_rules.ensures)
+
 pub returns : goal.returns
-returns c = c.turned.ensures ∙ rw (c.head_rules-verdict.ensures, c.headed-next.ensures, c.section-section.ensures, c.first_name-digits.ensures)
+returns c = rw (c.headed.ensures, c.first_name-digits.ensures) (asked-all (rw (c.front.ensures, c.section.ensures, c.first_name-digits.ensures) at c.in_ok-head_rules.ensures))

@@ -1,11 +1,9 @@
-use Rattle.std.proofs.Common.{◌∙◌, arith, rules}
+use Rattle.std.proofs.Common.{arith, ◌∙◌}
+use Rattle.judging.specs.Asking.{asked-none, asked-all}
 use Rattle.rules.proofs.acting.invoked.Goals as goal
 
-pub shape_of-rates : goal.shape_of-rates
-shape_of-rates c = omega (arith, c.rates-1.given, c.tasks-1.given)
-
-pub shape_of-tasks : goal.shape_of-tasks
-shape_of-tasks c = omega (arith, c.rates-1.given, c.tasks-1.given)
+pub returns-in_err-call_rules : goal.returns-in_err-call_rules
+returns-in_err-call_rules c = record { told = λ ix. asked-none _ c.from_residual.ensures (rw (c.twice_of.ensures, c.front.ensures, c.invoked-next.ensures, c.task_named-task.ensures ix, c.first_name-name.ensures) at c.in_err-call_rules.ensures ix); arrays = λ ix. (c.put.ensures, c.put-2.ensures ∙ rw (c.task_named-task.ensures ix, c.first_name-name.ensures)) }
 
 pub returns : goal.returns
-returns c = record { told = λ ix. c.turned.ensures ∙ rw (c.call_rules-verdict.ensures _ ix, c.invoked-next.ensures, c.twice_of-place.ensures, c.more-all.ensures, c.task_named-task.ensures ix, c.first_name-name.ensures); arrays = λ ix. (c.put.ensures, c.put-2.ensures ∙ rw (c.task_named-task.ensures ix, c.first_name-name.ensures)) }
+returns c = record { told = λ ix. rw (c.invoked-next.ensures, c.task_named-task.ensures ix, c.first_name-name.ensures) (asked-all (rw (c.twice_of.ensures, c.front.ensures, c.invoked-next.ensures, c.task_named-task.ensures ix, c.first_name-name.ensures) at c.in_ok-call_rules.ensures ix)); arrays = λ ix. (c.put.ensures, c.put-2.ensures ∙ rw (c.task_named-task.ensures ix, c.first_name-name.ensures)) }

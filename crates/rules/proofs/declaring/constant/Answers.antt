@@ -1,14 +1,9 @@
-use Rattle.std.proofs.Common.{sym, ap, ◌∙◌, rules}
-use Rattle.refusals.specs.Checks.{is_fine}
 use Rattle.rules.specs.Going.{told-broken, told-new}
+use Rattle.std.proofs.Math.Path.{refl}
 use Rattle.rules.proofs.declaring.constant.Goals as goal
 
-pub returns-in_default : goal.returns-in_default
-returns-in_default c = λ ix.
-    let judged = rw (c.first_name-name.ensures, c.first_value-value.ensures) at (c.constant_rules-verdict.ensures ix) in
-    told-broken (ap is_fine (sym judged ∙ c.in_default.is)) (c.stopped.ensures ∙ rw judged)
+pub returns-in_err-constant_rules : goal.returns-in_err-constant_rules
+returns-in_err-constant_rules c ix = told-broken c.from_residual.ensures (rw (c.first_name-name.ensures, c.first_value-value.ensures) at c.in_err-constant_rules.ensures ix)
 
 pub returns : goal.returns
-returns c = λ ix.
-    let judged = rw (c.first_name-name.ensures, c.first_value-value.ensures) at (c.constant_rules-verdict.ensures ix) in
-    told-new (sym judged ∙ c.in-Fine.is) c.entered.ensures.0 c.entered.ensures.1 (rw (c.row_of-constant.ensures, c.literal_word-word.ensures ix, c.literal_type-typ.ensures ix, c.first_value-value.ensures, c.first_name-name.ensures))
+returns c ix = told-new c.declare.result (rw (c.first_name-name.ensures, c.first_value-value.ensures) at c.in_ok-constant_rules.ensures ix) refl c.declare.ensures (rw (c.row_of-constant.ensures, c.literal_word-word.ensures ix, c.literal_type-typ.ensures ix, c.first_value-value.ensures, c.first_name-name.ensures))

@@ -1,14 +1,9 @@
-use Rattle.std.proofs.Common.{sym, ap, ◌∙◌, rules}
-use Rattle.refusals.specs.Checks.{is_fine}
 use Rattle.rules.specs.Going.{told-broken, told-new}
+use Rattle.std.proofs.Math.Path.{refl}
 use Rattle.rules.proofs.declaring.input.Goals as goal
 
-pub returns-in_default : goal.returns-in_default
-returns-in_default c = λ ix.
-    let judged = rw (c.first_name-typ.ensures, c.second_name-name.ensures) at (c.input_rules-verdict.ensures ix) in
-    told-broken (ap is_fine (sym judged ∙ c.in_default.is)) (c.stopped.ensures ∙ rw judged)
+pub returns-in_err-input_rules : goal.returns-in_err-input_rules
+returns-in_err-input_rules c ix = told-broken c.from_residual.ensures (rw (c.first_name-typ.ensures, c.second_name-name.ensures) at c.in_err-input_rules.ensures ix)
 
 pub returns : goal.returns
-returns c = λ ix.
-    let judged = rw (c.first_name-typ.ensures, c.second_name-name.ensures) at (c.input_rules-verdict.ensures ix) in
-    told-new (sym judged ∙ c.in-Fine.is) c.entered.ensures.0 c.entered.ensures.1 (rw (c.port_row-port.ensures ix, c.count-tasks.ensures _ ix, c.first_name-typ.ensures, c.second_name-name.ensures))
+returns c ix = told-new c.declare.result (rw (c.first_name-typ.ensures, c.second_name-name.ensures) at c.in_ok-input_rules.ensures ix) refl c.declare.ensures (rw (c.port_row-port.ensures ix, c.count-tasks.ensures _ ix, c.first_name-typ.ensures, c.second_name-name.ensures))

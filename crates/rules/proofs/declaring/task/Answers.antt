@@ -1,14 +1,9 @@
-use Rattle.std.proofs.Common.{sym, ap, ◌∙◌, rules}
-use Rattle.refusals.specs.Checks.{is_fine}
 use Rattle.rules.specs.Going.{told-broken, told-new}
+use Rattle.std.proofs.Math.Path.{refl}
 use Rattle.rules.proofs.declaring.task.Goals as goal
 
-pub returns-in_default : goal.returns-in_default
-returns-in_default c = λ ix.
-    let judged = rw c.first_name-name.ensures at (c.new_rules-verdict.ensures ix) in
-    told-broken (ap is_fine (sym judged ∙ c.in_default.is)) (c.stopped.ensures ∙ rw judged)
+pub returns-in_err-new_rules : goal.returns-in_err-new_rules
+returns-in_err-new_rules c ix = told-broken c.from_residual.ensures (rw (c.first_name-name.ensures) at c.in_err-new_rules.ensures ix)
 
 pub returns : goal.returns
-returns c = λ ix.
-    let judged = rw c.first_name-name.ensures at (c.new_rules-verdict.ensures ix) in
-    told-new (sym judged ∙ c.in-Fine.is) c.entered.ensures.0 c.entered.ensures.1 (rw (c.row_of-task.ensures, c.count-tasks.ensures _ ix, c.first_name-name.ensures))
+returns c ix = told-new c.declare.result (rw (c.first_name-name.ensures) at c.in_ok-new_rules.ensures ix) refl c.declare.ensures (rw (c.row_of-task.ensures, c.count-tasks.ensures _ ix, c.first_name-name.ensures))

@@ -1,36 +1,23 @@
-use mathlib.Core.Path.{◌∙◌}
-use borrow.Author.Rules.{rules}
+use Prim.Native.Nat.{◌+◌, ◌-◌}
+use mathlib.Core.Path.{◌≡◌, ◌∙◌}
+use native.Mathlib.Omega.{arith}
 use Rattle.text.proofs.SpacesLaws as law
-use Rattle.scan.specs.Blocks.{block-over}
+use Rattle.scan.specs.Blocks.{block-pass, block-over}
 use Rattle.scan.proofs.spaces.block_end.Goals as goal
+use Rattle.scan.proofs.spaces.block_end.Goals.{else-s-i-eq42-via-then-s-i-eq42+else-s-i-eq47, else-s-i-eq42-via-else-s-i-eq42}
 
-pub returns-then-s-next-eq47 : goal.returns-then-s-next-eq47
-returns-then-s-next-eq47 c =
-    let loop = c.loop-i in
-    let loop-test = c.loop-i-test in
-    let if1 = c.if-next-s in
-    let if2 = c.if-s-i-eq42 in
-    (search rules, λ start. loop.invariant.1 start ∙ law.block_out _ _ loop-test.true if2.true if1.true c.if-s-next-eq47.true start)
-
-pub loop-i-preserved-else-s-next-eq47 : goal.loop-i-preserved-else-s-next-eq47
-loop-i-preserved-else-s-next-eq47 c =
-    let loop = c.loop-i in
-    let loop-test = c.loop-i-test in
-    let if1 = c.if-next-s in
-    let if2 = c.if-s-i-eq42 in
-    (search rules, λ start. loop.invariant.1 start ∙ law.block-lone _ _ loop-test.true if2.true if1.true c.if-s-next-eq47.false start)
-
-pub loop-i-preserved-else-s-i-eq42 : goal.loop-i-preserved-else-s-i-eq42
-loop-i-preserved-else-s-i-eq42 c =
-    let loop = c.loop-i in
-    let loop-test = c.loop-i-test in
-    (search rules, λ start. loop.invariant.1 start ∙ law.block_on _ _ loop-test.true c.if-s-i-eq42.false start)
+pub returns-then-s-i-eq47 : goal.returns-then-s-i-eq47
+returns-then-s-i-eq47 c =
+    let i = c.loop-i.i in
+    let z : i - 1 + 1 ≡ i = omega arith in
+    (omega arith, λ start. c.loop-i.invariant start ∙ law.block_out c.args.s.now (i - 1) (omega arith) c.if-s-i-eq42.true (rw z c.loop-i-test.true) (rw z c.if-s-i-eq47.true) start ∙ rw z)
 
 pub loop-i-preserved : goal.loop-i-preserved
 loop-i-preserved c =
-    let args = c.args in
-    let loop = c.loop-i in
-    (search rules, λ start. loop.invariant.1 start ∙ block-over args.s.now loop.i c.loop-i-test.true c.if-next-s.false start)
+    let i = c.loop-i.i in
+    let z : i - 1 + 1 ≡ i = omega arith in
+    let y : i + 1 - 1 ≡ i = omega arith in
+    λ from. c.loop-i.invariant from ∙ block-pass c.args.s.now (i - 1) (rw z c.loop-i-test.true) (λ star slash. elim c.else-s-i-eq42.branch [ else-s-i-eq42-via-then-s-i-eq42+else-s-i-eq47 w ↦ w.if-s-i-eq47.false (rw z at slash) | else-s-i-eq42-via-else-s-i-eq42 w ↦ w.if-s-i-eq42.false star ]) from ∙ rw (z, y)
 
 pub returns : goal.returns
-returns c = λ start. c.loop-i.invariant.1 start ∙ law.block-end _ _ c.loop-i-test.false start
+returns c = λ start. c.loop-i.invariant start ∙ block-over c.args.s.now (c.loop-i.i - 1) (omega arith) start

@@ -1,19 +1,17 @@
-use mathlib.Core.Path.{sym, ◌∙◌}
-use borrow.Author.Rules.{rules}
+use Prim.Native.Nat.{ℕ}
+use lib.ListN.{length}
+use mathlib.Core.Path.{◌≡◌, sym, ◌∙◌}
+use native.Mathlib.Omega.{arith}
 use Rattle.text.proofs.SpacesLaws as law
 use Rattle.scan.proofs.spaces.line_end.Goals as goal
 
 pub returns-then-s-i-eq10 : goal.returns-then-s-i-eq10
-returns-then-s-i-eq10 c =
-    let loop = c.loop-i in
-    let loop-test = c.loop-i-test in
-    (search rules, loop.invariant.1 ∙ law.line-out _ _ loop-test.true c.if-s-i-eq10.true)
+returns-then-s-i-eq10 c = (omega arith, c.loop-i.invariant ∙ law.line-out _ _ c.loop-i-test.true c.if-s-i-eq10.true)
 
 pub loop-i-preserved : goal.loop-i-preserved
-loop-i-preserved c =
-    let loop = c.loop-i in
-    let loop-test = c.loop-i-test in
-    (search rules, loop.invariant.1 ∙ law.line_on _ _ loop-test.true c.if-s-i-eq10.false)
+loop-i-preserved c = c.loop-i.invariant ∙ law.line_on _ _ c.loop-i-test.true c.if-s-i-eq10.false
 
 pub returns : goal.returns
-returns c = (search rules, c.loop-i.invariant.1 ∙ law.line-end _ _ c.loop-i-test.false ∙ sym (law.spaces-end _ _ c.loop-i-test.false))
+returns c =
+    let end : ◌≡◌ {A = ℕ} c.loop-i.i (length c.args.s.now) = omega arith in
+    (c.requires, c.loop-i.invariant ∙ law.line-end _ _ c.loop-i-test.false ∙ rw end (sym (law.spaces-end _ (length c.args.s.now) (omega arith))))

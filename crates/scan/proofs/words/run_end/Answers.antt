@@ -1,23 +1,19 @@
-use mathlib.Core.Path.{sym, ◌∙◌}
+use Prim.Native.Nat.{ℕ}
+use mathlib.Core.Path.{◌≡◌, sym, ◌∙◌}
+use native.Mathlib.Omega.{arith}
+use lib.ListN.{length}
 use Rattle.text.proofs.WordsLaws as law
-use Rattle.scan.specs.Runs.{takes}
 use Rattle.scan.proofs.words.run_end.Goals as goal
 
-pub loop-i-preserved : goal.loop-i-preserved
-loop-i-preserved c =
-    let args = c.args in
-    let loop = c.loop-i in
-    let loop-test = c.loop-i-test in
-    loop.invariant ∙ law.munch-on (takes args.number) _ _ loop-test.true (sym c.goes_on.ensures ∙ c.if-goes_on.true)
+pub returns-then-not-takes : goal.returns-then-not-takes
+returns-then-not-takes g c =
+    λ test tells. sym (c.loop-i.invariant test tells ∙ law.munch-out test _ _ c.loop-i-test.true (sym (tells _ _ (omega (arith, c.type_inv.s c.loop-i.i)) c.if-not-takes.ensures)))
 
-pub returns-else-goes_on : goal.returns-else-goes_on
-returns-else-goes_on c =
-    let args = c.args in
-    let loop = c.loop-i in
-    let loop-test = c.loop-i-test in
-    sym (loop.invariant ∙ law.munch-out (takes args.number) _ _ loop-test.true (sym c.goes_on.ensures ∙ c.if-goes_on.false))
+pub loop-i-preserved : goal.loop-i-preserved
+loop-i-preserved g c =
+    λ test tells. c.loop-i.invariant test tells ∙ law.munch-on test _ _ c.loop-i-test.true (sym (tells _ _ (omega (arith, c.type_inv.s c.loop-i.i)) c.if-not-takes.ensures))
 
 pub returns : goal.returns
-returns c =
-    let args = c.args in
-    sym (c.loop-i.invariant ∙ law.munch-end (takes args.number) _ _ c.loop-i-test.false)
+returns g c =
+    let end : ◌≡◌ {A = ℕ} c.loop-i.i (length c.args.s.now) = omega arith in
+    λ test tells. sym (c.loop-i.invariant test tells ∙ law.munch-end test _ _ c.loop-i-test.false ∙ end)

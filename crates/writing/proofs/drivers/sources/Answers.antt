@@ -1,20 +1,15 @@
-use mathlib.Core.Path.{◌≡◌, refl}
-use Prim.Native.Nat.{◌+◌, ◌-◌, ◌≤◌, min}
-use lib.ListN.{length}
-use Rattle.writing.specs.Puts as puts
-use Rattle.writing.specs.Puts.{Puts, parts}
-use Rattle.writing.specs.Cells.{cell, pair_of}
-use Rattle.writing.specs.Cells.{sources_in}
-use borrow.Author.Rules.{rules}
-use native.Mathlib.Omega.{arith}
+use Rattle.std.proofs.Common.{arith, ◌≡◌, min}
+use Rattle.writing.specs.Wrote.{wrote-both, wrote_of, wrote-begin, wrote-more}
+use Rattle.writing.specs.Puts.{parts}
+use Rattle.writing.specs.Cells.{pair_of, sources_in}
 use Rattle.writing.proofs.drivers.sources.Goals as goal
 
 pub loop-k-init : goal.loop-k-init
-loop-k-init c = (c.few-n.ensures, omega arith, refl, puts.puts-begin _)
+loop-k-init c = wrote-begin _ _
 
 pub loop-k-preserved : goal.loop-k-preserved
-loop-k-preserved c = let i = c.loop-k.invariant in (i.0, omega arith, search rules, puts.puts-more _ i.3 (puts.puts_of pair_of c.at32.ensures c.pair-next.ensures) refl)
+loop-k-preserved c = wrote-more _ _ c.loop-k.invariant (wrote_of pair_of c.at32.ensures c.pair.ensures)
 
 pub returns : goal.returns
 unfolding sources_in
-returns c = let i = c.loop-k.invariant in let e : c.loop-k.k ≡ min c.args.many 8 = omega arith in puts.puts-both c.byte-next.ensures (puts.puts_of (parts _) e i.3)
+returns c = let e : c.loop-k.k ≡ min c.args.many 8 = omega arith in wrote-both c.byte.ensures (wrote_of (parts _) e c.loop-k.invariant)

@@ -1,16 +1,8 @@
-use mathlib.Core.Path.{◌≡◌, refl}
-use Prim.Native.Nat.{◌+◌, ◌-◌, ◌≤◌, min}
-use lib.ListN.{length}
-use Rattle.writing.specs.Puts as puts
-use Rattle.writing.specs.Puts.{Puts, parts}
+use Rattle.writing.specs.Wrote.{Wrote}
+use Rattle.writing.specs.Puts.{parts}
 use Rattle.writing.specs.Cells.{cell, pair_of}
-use Rattle.writing.specs.Cells.{sources_in}
-use borrow.Author.Rules.{rules}
-use native.Mathlib.Omega.{arith}
+use Rattle.std.proofs.Common.{◌+◌}
 use Rattle.writing.proofs.drivers.sources.Given as goal
 
 abbrev pub invariant-loop-k : goal.invariant-loop-k
-invariant-loop-k l = (l.n ≡ min l.many 8) × (l.k ≤ l.n) × (length l.buffer ≡ length l.initial.buffer) × Puts l.initial.buffer l.initial.next (parts (λ j. pair_of (cell l.rows (l.from + j))) l.k) l.buffer l.next
-
-abbrev pub decreases-loop-k : goal.decreases-loop-k
-decreases-loop-k l = l.n - l.k
+invariant-loop-k l = Wrote l.initial.out (parts (λ j. pair_of (cell l.t.driver_rows.now (l.from + j))) l.k) l.out

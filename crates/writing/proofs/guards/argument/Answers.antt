@@ -1,15 +1,12 @@
-use Prim.Native.Nat.{◌-◌}
-use Rattle.writing.specs.Puts as puts
-use Rattle.writing.specs.Cells.{argument_in}
 use borrow.Author.Tests.{eq-eqb, ne_eqb}
-use native.Mathlib.Omega.{arith}
-use borrow.Author.Rules.{rules}
+use Rattle.writing.specs.Wrote.{wrote-both}
+use Rattle.writing.specs.Cells.{argument_in}
 use Rattle.writing.proofs.guards.argument.Goals as goal
 
-pub returns-then-place-eq0 : goal.returns-then-place-eq0
+pub returns-then-place-eq-PORT : goal.returns-then-place-eq-PORT
 unfolding argument_in
-returns-then-place-eq0 c = rw (eq-eqb c.args.place 0 (omega arith)) (puts.puts-both c.byte-tagged.ensures c.pair.ensures)
+returns-then-place-eq-PORT c = rw (eq-eqb _ 0 c.if-place-eq-PORT.true) (wrote-both c.byte.ensures c.pair.ensures)
 
-pub returns : goal.returns
+pub returns-else-place-eq-PORT : goal.returns-else-place-eq-PORT
 unfolding argument_in
-returns c = rw (ne_eqb c.args.place 0 (λ q. omega arith)) (puts.puts-both c.byte-tagged-2.ensures (puts.puts-both c.byte-typed.ensures c.quad.ensures))
+returns-else-place-eq-PORT c = rw (ne_eqb _ 0 c.if-place-eq-PORT.false) (wrote-both c.byte-else-place-eq-PORT.ensures (wrote-both c.byte-else-place-eq-PORT-2.ensures c.quad.ensures))

@@ -1,15 +1,8 @@
-use mathlib.Core.Path.{◌≡◌, refl}
-use Prim.Native.Nat.{◌-◌, ◌*◌, ◌≤◌, min}
-use lib.ListN.{length}
-use Rattle.writing.specs.Puts as puts
-use Rattle.writing.specs.Puts.{Puts, parts}
-use Rattle.writing.specs.Cells.{guard_at, guards_in}
-use borrow.Author.Rules.{rules}
-use native.Mathlib.Omega.{arith}
+use Rattle.writing.specs.Wrote.{Wrote}
+use Rattle.writing.specs.Puts.{parts}
+use Rattle.writing.specs.Cells.{guard_at}
+use Rattle.std.proofs.Common.{◌*◌}
 use Rattle.writing.proofs.guards.guards.Given as goal
 
 abbrev pub invariant-loop-k : goal.invariant-loop-k
-invariant-loop-k l = (l.n ≡ min l.many 256) × (l.k ≤ l.n) × (length l.buffer ≡ length l.initial.buffer) × Puts l.initial.buffer l.initial.next (parts (λ j. guard_at l.rows (j * 6)) l.k) l.buffer l.next
-
-abbrev pub decreases-loop-k : goal.decreases-loop-k
-decreases-loop-k l = l.n - l.k
+invariant-loop-k l = Wrote l.initial.out (parts (λ j. guard_at l.t.guard_rows.now (j * 6)) l.k) l.out

@@ -1,21 +1,15 @@
-use Rattle.writing.specs.Puts as puts
+use Rattle.std.proofs.Common.{arith, ◌≡◌, min}
+use Rattle.writing.specs.Wrote.{wrote-both, wrote_of, wrote-begin, wrote-more}
 use Rattle.writing.specs.Puts.{parts}
 use Rattle.writing.specs.Cells.{code_in}
-use borrow.Author.Rules.{rules}
 use Rattle.writing.proofs.modes.code.Goals as goal
 
-pub returns-then-rows-n : goal.returns-then-rows-n
-unfolding code_in
-returns-then-rows-n c = puts.puts-both c.pair-next.ensures (puts.puts_of (parts _) c.few-n.ensures c.cut_instructions.ensures)
+pub loop-k-init : goal.loop-k-init
+loop-k-init c = wrote-begin _ _
 
-pub returns-then-buffer-n : goal.returns-then-buffer-n
-unfolding code_in
-returns-then-buffer-n c = puts.puts-both c.pair-next.ensures (puts.puts_of (parts _) c.few-n.ensures c.cut_instructions-then-buffer-n.ensures)
-
-pub returns-then-buffer-n-2 : goal.returns-then-buffer-n-2
-unfolding code_in
-returns-then-buffer-n-2 c = puts.puts-both c.pair-next.ensures (puts.puts_of (parts _) c.few-n.ensures c.cut_instructions-then-buffer-n-2.ensures)
+pub loop-k-preserved : goal.loop-k-preserved
+loop-k-preserved c = wrote-more _ _ c.loop-k.invariant c.instruction.ensures
 
 pub returns : goal.returns
 unfolding code_in
-returns c = puts.puts-both c.pair-next.ensures (puts.puts_of (parts _) c.few-n.ensures c.instructions.ensures)
+returns c = let e : c.loop-k.k ≡ min c.args.t.now.counts.instructions 4096 = omega arith in wrote-both c.pair.ensures (wrote_of (parts _) e c.loop-k.invariant)

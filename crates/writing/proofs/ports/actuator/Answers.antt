@@ -1,10 +1,7 @@
-use Prim.Native.Nat.{◌-◌}
-use Rattle.writing.specs.Puts as puts
-use Rattle.writing.specs.Cells.{byte_of, quad_of}
-use Rattle.writing.specs.Cells.{actuator_in}
-use borrow.Author.Rules.{rules}
+use Rattle.writing.specs.Wrote.{wrote-both, wrote_of}
+use Rattle.writing.specs.Cells.{byte_of, quad_of, actuator_in}
 use Rattle.writing.proofs.ports.actuator.Goals as goal
 
 pub returns : goal.returns
 unfolding actuator_in
-returns c = puts.puts-both c.name-named.ensures (puts.puts-both (puts.puts_of byte_of c.at32.ensures c.byte-typed.ensures) (puts.puts-both (puts.puts_of quad_of c.at32-2.ensures c.quad-started.ensures) c.name.ensures))
+returns c = wrote-both c.name.ensures (wrote-both (wrote_of byte_of c.at32.ensures c.byte.ensures) (wrote-both (wrote_of quad_of c.at32-2.ensures c.quad.ensures) c.name-2.ensures))

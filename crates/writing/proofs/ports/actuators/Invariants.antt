@@ -1,15 +1,7 @@
-use mathlib.Core.Path.{◌≡◌, refl}
-use Prim.Native.Nat.{◌-◌, ◌≤◌, min}
-use lib.ListN.{length}
-use Rattle.writing.specs.Puts as puts
-use Rattle.writing.specs.Puts.{Puts, parts}
-use Rattle.writing.specs.Cells.{actuator_in, actuators_in}
-use borrow.Author.Rules.{rules}
-use native.Mathlib.Omega.{arith}
+use Rattle.writing.specs.Wrote.{Wrote}
+use Rattle.writing.specs.Puts.{parts}
+use Rattle.writing.specs.Cells.{actuator_in}
 use Rattle.writing.proofs.ports.actuators.Given as goal
 
 abbrev pub invariant-loop-k : goal.invariant-loop-k
-invariant-loop-k l = (l.n ≡ min l.many 32) × (l.first ≡ l.from) × (l.k ≤ l.n) × (length l.buffer ≡ length l.initial.buffer) × Puts l.initial.buffer l.initial.next (parts (actuator_in l.names l.types l.starts l.first) l.k) l.buffer l.next
-
-abbrev pub decreases-loop-k : goal.decreases-loop-k
-decreases-loop-k l = l.n - l.k
+invariant-loop-k l = Wrote l.initial.out (parts (actuator_in l.t.actuator_names.now l.t.types.now l.t.starts.now l.t.counts.sensors) l.k) l.out

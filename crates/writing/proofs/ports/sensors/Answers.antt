@@ -1,19 +1,15 @@
-use mathlib.Core.Path.{◌≡◌, refl}
-use Prim.Native.Nat.{◌-◌, ◌≤◌, min}
-use lib.ListN.{length}
-use Rattle.writing.specs.Puts as puts
-use Rattle.writing.specs.Puts.{Puts, parts}
-use Rattle.writing.specs.Cells.{sensor_in, sensors_in}
-use borrow.Author.Rules.{rules}
-use native.Mathlib.Omega.{arith}
+use Rattle.std.proofs.Common.{arith, ◌≡◌, min}
+use Rattle.writing.specs.Wrote.{wrote-both, wrote_of, wrote-begin, wrote-more}
+use Rattle.writing.specs.Puts.{parts}
+use Rattle.writing.specs.Cells.{sensors_in}
 use Rattle.writing.proofs.ports.sensors.Goals as goal
 
 pub loop-k-init : goal.loop-k-init
-loop-k-init c = (c.few-n.ensures, omega arith, refl, puts.puts-begin _)
+loop-k-init c = wrote-begin _ _
 
 pub loop-k-preserved : goal.loop-k-preserved
-loop-k-preserved c = let i = c.loop-k.invariant in (i.0, omega arith, search rules, puts.puts-more _ i.3 c.sensor-next.ensures refl)
+loop-k-preserved c = wrote-more _ _ c.loop-k.invariant c.sensor.ensures
 
 pub returns : goal.returns
 unfolding sensors_in
-returns c = let i = c.loop-k.invariant in let e : c.loop-k.k ≡ min c.args.many 32 = omega arith in puts.puts-both c.pair-next.ensures (puts.puts_of (parts _) e i.3)
+returns c = let e : c.loop-k.k ≡ min c.args.t.now.counts.sensors 32 = omega arith in wrote-both c.pair.ensures (wrote_of (parts _) e c.loop-k.invariant)

@@ -1,0 +1,14 @@
+use Rattle.std.proofs.Common.{ap, sym, ◌∙◌}
+use Rattle.calls.specs.States.{finish-alone}
+use Rattle.emachine.specs.Machines.{start_by, state_in, finished_on}
+use Rattle.emachine.proofs.Machine.finish.Goals as goal
+
+pub returns : goal.returns
+returns c =
+    let a = c.args in
+    let m = a.self.now in
+    let t = m.table in
+    ap (finished_on t) (sym (
+    c.finish_on.ensures m.ports
+    ∙ finish-alone t.instructions t.code t.driver_rows t.guard_rows t.mode_rows t.task_rows t.types t.starts t.sensors (start_by t.mode_rows 0 t.modes) (state_in m) a.task a.types.now a.words.now
+    ))

@@ -1,8 +1,0 @@
-use borrow.Author.Tests.{eq-eqb, ne_eqb}
-use Rattle.noting.proofs.settled.Goals as goal
-
-pub returns-then-wanted-eq2 : goal.returns-then-wanted-eq2
-returns-then-wanted-eq2 c = simp (eq-eqb _ _ c.if-wanted-eq2.true)
-
-pub returns : goal.returns
-returns c = simp (ne_eqb _ _ c.if-wanted-eq2.false)
