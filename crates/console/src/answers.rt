@@ -1,5 +1,4 @@
 // The answers' words.
-use super::ROOM;
 use emachine::Machine;
 use file::Refused;
 use lines::saying;
@@ -9,7 +8,7 @@ use std::io::Write;
 
 // A file, of the first bytes of a buffer.
 pub(super) fn file(output: &mut impl Write, bytes: &[u8], size: usize) -> io::Result<()> {
-    let mut out = [0u8; ROOM];
+    let mut out = super::room();
     let end = bytes.len().min(size);
     let said = saying::hex(&mut out, 0, &bytes[..end]);
     output.write_all(b"ok ")?;

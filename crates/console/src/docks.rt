@@ -36,6 +36,6 @@ pub(super) fn call(
         Call::Finish { task, results } => {
             answers::finishing(output, machine.finish(task, results.types, results.words))
         }
-        Call::Look => answers::look(output, machine),
+        Call::Look => answers::look(output, machine.look()),
     }
 }

@@ -1,12 +1,12 @@
 // Requests that leave the machine alone: compile and read.
-use super::{ROOM, answers};
+use super::answers;
 use file::ReadAnswer;
 use std::io;
 use std::io::Write;
 
 // compile HEXTEXT ROOM
 pub(super) fn compile(output: &mut impl Write, text: &[u8], room: u32) -> io::Result<()> {
-    let mut file = [0u8; ROOM];
+    let mut file = super::room();
     compiled(output, text, room, &mut file)
 }
 
@@ -21,7 +21,7 @@ fn compiled(output: &mut impl Write, text: &[u8], room: u32, file: &mut [u8]) ->
 
 // read HEXFILE: the file of the table that was read
 pub(super) fn read(output: &mut impl Write, bytes: &[u8]) -> io::Result<()> {
-    let mut file = [0u8; ROOM];
+    let mut file = super::room();
     let reading = ecode::read(bytes);
     if let ReadAnswer::Refused(number) = reading.answer {
         return writeln!(output, "refused {number}");

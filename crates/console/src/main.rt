@@ -3,6 +3,8 @@
 // Builds on lines, and on the product's own calls.
 #![tactic(auto)]
 
+ghost use Rattle.std.specs.Prelude.{◌≡◌, length};
+
 use asking::Request;
 use emachine::Machine;
 use lines::input::{Found, Lines};
@@ -16,6 +18,12 @@ mod files;
 
 // Room for the longest line, the longest file and the longest answer.
 const ROOM: usize = 262144;
+
+pub fn room() -> [u8; ROOM]
+    ensures { 262144 ≡ length result }
+{
+    [0; ROOM]
+}
 
 // The answer to a line; a machine, if one is started.
 fn reply(output: &mut impl Write, line: &[u8], machine: &mut Option<Machine>) -> io::Result<()> {
@@ -59,6 +67,6 @@ fn run(input: &mut impl Read, output: &mut impl Write, buffer: &mut [u8]) -> io:
 }
 
 fn main(rt: HostRuntime) -> io::Result<()> {
-    let mut buffer = [0u8; ROOM];
+    let mut buffer = room();
     run(&mut rt.stdin(), &mut rt.stdout(), &mut buffer)
 }

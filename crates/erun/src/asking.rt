@@ -1,4 +1,7 @@
-// What a line of a script asks for (docs/RUN.md).
+// What a line of a script asks for (docs/RUN.md): an error, or a call whose results fill one row of 32 at most.
+ghost use Rattle.std.specs.Prelude.{IfOk};
+ghost use Rattle.erun.specs.Calls.{FillsRow, AsksRow};
+
 use super::docks::Dock;
 use super::values::{Names, Values};
 use super::words::{self, Words};
@@ -88,7 +91,9 @@ const MISSING: Wrong<'static> = Wrong {
 };
 
 // start COUNT [SENSOR=VALUE ..]
-fn start<'a>(mut rest: Words<'a>, dock: &Dock) -> Result<Call, Wrong<'a>> {
+fn start<'a>(mut rest: Words<'a>, dock: &Dock) -> Result<Call, Wrong<'a>>
+    ensures { IfOk result FillsRow }
+{
     let word = rest.next().ok_or(MISSING)?;
     let count = words::absolute(word).ok_or(Wrong {
         cause: Cause::Number,
@@ -120,7 +125,9 @@ fn count<'a>(rest: &mut Words<'a>, machine: &Machine) -> Result<u32, Wrong<'a>> 
 }
 
 // tick [TIME] [SENSOR=VALUE ..]
-fn tick<'a>(mut rest: Words<'a>, dock: &Dock) -> Result<Call, Wrong<'a>> {
+fn tick<'a>(mut rest: Words<'a>, dock: &Dock) -> Result<Call, Wrong<'a>>
+    ensures { IfOk result FillsRow }
+{
     let count = count(&mut rest, &dock.machine)?;
     let readings = readings(rest, dock)?;
     Ok(Call::Tick { count, readings })
@@ -138,7 +145,9 @@ fn outputs_before(task_rows: &[u32], task: usize) -> u32 {
 }
 
 // finish TASK [OUTPUT=VALUE ..]: an output that is not named has the value that its port shows.
-fn finish<'a>(mut rest: Words<'a>, machine: &Machine) -> Result<Call, Wrong<'a>> {
+fn finish<'a>(mut rest: Words<'a>, machine: &Machine) -> Result<Call, Wrong<'a>>
+    ensures { IfOk result FillsRow }
+{
     let table = &machine.table;
     let word = rest.next().ok_or(MISSING)?;
     let tasks = Names {
@@ -166,7 +175,7 @@ fn finish<'a>(mut rest: Words<'a>, machine: &Machine) -> Result<Call, Wrong<'a>>
     let results = shown.changed(rest, &outputs, Cause::Output)?;
     Ok(Call::Finish {
         task,
-        many,
+        many: many.min(32),
         results,
     })
 }
@@ -190,7 +199,9 @@ fn is_comment(word: &[u8]) -> bool {
 }
 
 // A call of the machine that was started.
-fn called<'a>(word: &'a [u8], rest: Words<'a>, dock: &Dock) -> Result<Line, Wrong<'a>> {
+fn called<'a>(word: &'a [u8], rest: Words<'a>, dock: &Dock) -> Result<Line, Wrong<'a>>
+    ensures { IfOk result AsksRow }
+{
     if !dock.made {
         return Err(Wrong {
             cause: Cause::NotStarted,
@@ -212,7 +223,9 @@ fn called<'a>(word: &'a [u8], rest: Words<'a>, dock: &Dock) -> Result<Line, Wron
 }
 
 // What a line asks for.
-pub(super) fn asked<'a>(line: &'a [u8], dock: &Dock) -> Result<Line, Wrong<'a>> {
+pub(super) fn asked<'a>(line: &'a [u8], dock: &Dock) -> Result<Line, Wrong<'a>>
+    ensures { IfOk result AsksRow }
+{
     let mut rest = Words { rest: line };
     let Some(word) = rest.next() else {
         return Ok(Line::Comment);

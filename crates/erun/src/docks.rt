@@ -124,7 +124,7 @@ pub(super) fn obey(output: &mut impl Write, call: Call, dock: &mut Dock) -> io::
     }
     let machine = &dock.machine;
     match answer {
-        Answer::Seen => changes::all(output, machine),
+        Answer::Seen => changes::all(output, machine.look()),
         _ => {
             messages::answer(output, answer, &machine.table)?;
             if answer.is_refused() {

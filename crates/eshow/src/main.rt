@@ -6,12 +6,14 @@
 ghost use Rattle.std.specs.Prelude.{◌≤◌, length};
 
 use file::ReadAnswer;
+use gathered::Gathered;
 use std::io;
 use std::io::{Read, Write};
 use tables::Table;
 
 mod codes;
 mod drivers;
+mod gathered;
 mod guards;
 mod modes;
 mod names;
@@ -74,5 +76,7 @@ fn read_full(input: &mut impl Read, buffer: &mut [u8]) -> usize
 fn main(rt: HostRuntime) -> io::Result<()> {
     let mut bytes = [0u8; 100001];
     let size = read_full(&mut rt.stdin(), &mut bytes);
-    show(&mut rt.stdout(), &bytes[..size])
+    let mut output = Gathered::on(rt.stdout());
+    show(&mut output, &bytes[..size])?;
+    output.flush()
 }

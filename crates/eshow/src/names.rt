@@ -51,10 +51,10 @@ impl fmt::Display for Port<'_> {
 
 // The letters of a name. In a table that was read they are ASCII, a byte each.
 fn spell<W: fmt::Write>(f: &mut fmt::Formatter<W>, name: &[u8]) -> fmt::Result {
-    for &letter in name {
-        write!(f, "{}", char::from(letter))?;
+    match std::str::from_utf8(name) {
+        Ok(letters) => f.write_str(letters),
+        Err(_) => Err(fmt::Error),
     }
-    Ok(())
 }
 
 pub(crate) fn module(table: &Table) -> Name<'_> {

@@ -7,3 +7,5 @@ pub mod NumbersLaws
 pub mod Values
 pub mod ValuesLaws
 pub mod Cases
+pub mod Inputs
+pub mod InputsLaws

@@ -33,8 +33,18 @@ enum Step {
 }
 
 impl<'a> Lines<'a> {
+    ghost use Rattle.std.specs.Prelude.{◌<◌, ◌++◌, List, ℕ, [], false, MatchBool, if◌then◌else◌, ◌==◌, position};
+    ghost use Rattle.std.specs.Borrow.{sem};
+    ghost use Rattle.std.specs.Io.KnownBytes.{Consumes};
+    ghost use Rattle.lines.specs.declared.input.Found.{Found};
+    ghost use Rattle.lines.specs.Inputs.{held, Unbroken, Looks, IsWithin, Shows, IsLine, Gives, GivesOnce};
+
     pub fn new(buffer: &'a mut [u8]) -> Lines<'a>
-        ensures { result.to ≡ 0 }
+        ensures same_reference { result.buffer.ghost_name ≡ buffer.entry.ghost_name }
+        ensures same { result.buffer.now ≡ buffer.old }
+        ensures none { held result ≡ [] }
+        ensures at_front { result.to ≡ 0 }
+        ensures begins { result.over ≡ false }
     {
         Lines {
             buffer,
@@ -45,24 +55,48 @@ impl<'a> Lines<'a> {
     }
 
     // The next line; the last needs no LF.
-    pub fn next(&mut self, input: &mut impl Read) -> Found<'_> {
-        for _ in 0..u64::MAX {
-            match self.step(input) {
-                Step::Line(begin, end) => {
-                    return Found::Line(self.buffer.get(begin..end).unwrap_or_default());
-                }
-                Step::Long => return Found::Long,
-                Step::End => return Found::End,
-                Step::More => {}
-            }
-        }
-        Found::End
+    pub fn next<R: Read>(&mut self, input: &mut R) -> Found<'_>
+        ensures line { IsLine (length self.old.buffer.now) result }
+        ensures* gives { sem 𝓛 (GivesOnce (R.remaining input.old) (R.remaining input.new) self.entry result) }
+    {
+        let step = self.advance(input);
+        self.found(step)
     }
 
-    fn step(&mut self, input: &mut impl Read) -> Step {
+    // What was found, with the bytes of a line.
+    fn found(&self, step: Step) -> Found<'_>
+        requires { IsWithin self.now step }
+        ensures { Shows self.now step result }
+    {
+        match step {
+            Step::Line(begin, end) => Found::Line(&self.buffer[begin..end]),
+            Step::Long => Found::Long,
+            Step::End | Step::More => Found::End,
+        }
+    }
+
+    // Looks and reads until something is found.
+    fn advance<R: Read>(&mut self, input: &mut R) -> Step
+        ensures within { IsWithin self.new result }
+        ensures gives { (found : Found) → Shows self.new result found
+            → Gives (R.remaining input.old) (R.remaining input.new) self.old self.new found }
+    {
+        for _ in 0..u64::MAX {
+            match self.step(input) {
+                Step::More => {}
+                found => return found,
+            }
+        }
+        Step::End
+    }
+
+    fn step<R: Read>(&mut self, input: &mut R) -> Step
+        ensures same_reference { self.new.buffer.ghost_name ≡ self.old.buffer.ghost_name }
+        ensures room { length self.new.buffer.now ≡ length self.old.buffer.now }
+        ensures looks { Looks (R.remaining input.old) (R.remaining input.new) self.old self.new result }
+    {
         let from = self.from;
-        let to = self.to;
-        match self.buffer[from..to].iter().position(|byte| *byte == b'\n') {
+        match self.first_end() {
             Some(size) => {
                 self.from = from + size + 1;
                 self.unless_over(Step::Line(from, from + size), false)
@@ -71,8 +105,20 @@ impl<'a> Lines<'a> {
         }
     }
 
+    // How much stands before the first LF of what is held.
+    fn first_end(&self) -> Option<usize>
+        ensures { result ≡ position (λ byte. byte == 10) (held self.now) }
+    {
+        super::first(&self.buffer[self.from..self.to], b'\n')
+    }
+
     // No line ends in what is held.
-    fn more(&mut self, input: &mut impl Read) -> Step {
+    fn more<R: Read>(&mut self, input: &mut R) -> Step
+        requires { Unbroken (held self.old) }
+        ensures same_reference { self.new.buffer.ghost_name ≡ self.old.buffer.ghost_name }
+        ensures room { length self.new.buffer.now ≡ length self.old.buffer.now }
+        ensures looks { Looks (R.remaining input.old) (R.remaining input.new) self.old self.new result }
+    {
         self.shift();
         let size = self.to;
         if size == self.buffer.len() {
@@ -90,40 +136,64 @@ impl<'a> Lines<'a> {
     }
 
     // What was found, unless it is passed over; whether what is held then is passed over.
-    fn unless_over(&mut self, found: Step, over: bool) -> Step {
+    fn unless_over(&mut self, found: Step, over: bool) -> Step
+        ensures same_reference { self.new.buffer.ghost_name ≡ self.old.buffer.ghost_name }
+        ensures same { self.new.buffer.now ≡ self.old.buffer.now }
+        ensures held { held self.new ≡ held self.old }
+        ensures over { self.new.over ≡ over }
+        ensures found { result ≡ (if self.old.over then Step.More else found) }
+    {
         let passed = self.over;
         self.over = over;
         if passed { Step::More } else { found }
     }
 
     // Nothing is held.
-    fn clear(&mut self) {
+    fn clear(&mut self)
+        ensures same_reference { self.new.buffer.ghost_name ≡ self.old.buffer.ghost_name }
+        ensures same { self.new.buffer.now ≡ self.old.buffer.now }
+        ensures none { held self.new ≡ [] }
+        ensures over { self.new.over ≡ self.old.over }
+    {
         self.from = 0;
         self.to = 0;
     }
 
     // What is held, moved to the front.
-    fn shift(&mut self) {
+    fn shift(&mut self)
+        ensures same_reference { self.new.buffer.ghost_name ≡ self.old.buffer.ghost_name }
+        ensures room { length self.new.buffer.now ≡ length self.old.buffer.now }
+        ensures front { self.new.from ≡ 0 }
+        ensures held { held self.new ≡ held self.old }
+        ensures over { self.new.over ≡ self.old.over }
+    {
         let from = self.from;
         let to = self.to;
-        if from > 0 {
-            for i in from..to {
-                self.buffer[i - from] = self.buffer[i];
-            }
-        }
+        self.buffer.copy_within(from..to, 0);
         self.from = 0;
         self.to = to - from;
     }
 
     // More of the input behind what is held; whether there was any.
-    fn fill(&mut self, input: &mut impl Read) -> bool {
+    fn fill<R: Read>(&mut self, input: &mut R) -> bool
+        ensures same_reference { self.new.buffer.ghost_name ≡ self.old.buffer.ghost_name }
+        ensures room { length self.new.buffer.now ≡ length self.old.buffer.now }
+        ensures front { self.new.from ≡ self.old.from }
+        ensures over { self.new.over ≡ self.old.over }
+        ensures read { MatchBool result
+            ((read : List ℕ) × (0 < length read) × Consumes (R.remaining input.old) (R.remaining input.new) read
+            × (held self.new ≡ held self.old ++ read))
+            (Consumes (R.remaining input.old) (R.remaining input.new) [] × (held self.new ≡ held self.old)
+            × (self.new.to ≡ self.old.to)) }
+    {
         let to = self.to;
         match input.read(&mut self.buffer[to..]) {
-            Ok(0) | Err(_) => false,
+            Ok(0) => false,
             Ok(n) => {
                 self.to = to + n;
                 true
             }
+            Err(_) => false,
         }
     }
 }
