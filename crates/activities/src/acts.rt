@@ -1,8 +1,9 @@
 // What an activity does: a task invoked, an actuator updated, a switch of the mode.
-ghost use Rattle.std.specs.Prelude.{◌≡◌, ◌++◌};
+ghost use Rattle.std.specs.Prelude.{◌≡◌, ℕ, List, ◌++◌};
 ghost use Rattle.refusals.specs.Checks.{first};
 ghost use Rattle.refusals.specs.Ports.{port_rules};
 ghost use Rattle.refusals.specs.Twice.{twice_of};
+ghost use Rattle.names.specs.Index.{Indexed};
 ghost use Rattle.judging.specs.Known.{rows_of, Right};
 ghost use Rattle.activities.specs.Kept.{call_checks, update_checks, target_checks};
 
@@ -48,7 +49,7 @@ pub fn update_rules(
 
 // A task that is invoked with so many arguments, again or not.
 pub fn call_rules(names: &Names<'_>, again: bool, task: Row, name: Name, count: usize) -> Verdict
-    ensures { Right names.now → result ≡ first (call_checks (rows_of names.now) again task name count) }
+    ensures { (s : List ℕ) → Indexed s names.now.cells.now → result ≡ first (call_checks (rows_of names.now) again task name count) }
 {
     name_rules(name)?;
     rule(6, name.start, task.sort == 7)?;

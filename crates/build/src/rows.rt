@@ -16,7 +16,7 @@ pub(super) fn held(memo: &[usize]) -> usize
 // Whether a row is of a state and a place.
 pub(super) fn is_of(row: &[usize], state: usize, at: usize) -> bool
     requires { length row.now ≡ 16 }
-    ensures { result ≡ true → (get_or row.now 1 0 ≡ state) × (get_or row.now 2 0 ≡ at) }
+    ensures { (result ≡ true → (get_or row.now 1 0 ≡ state) × (get_or row.now 2 0 ≡ at)) × (result ≡ false → get_or row.now 1 0 ≡ state → get_or row.now 2 0 ≡ at → ⊥) }
 {
     row[1] == state && row[2] == at
 }

@@ -1,5 +1,5 @@
 // The walk that fills the arrays of modes, guards, activities and drivers.
-ghost use Rattle.std.specs.Prelude.{◌≡◌, ◌+◌, ◌-◌, ◌*◌, ◌≤◌, ◌<◌, length};
+ghost use Rattle.std.specs.Prelude.{◌≡◌, ◌+◌, ◌-◌, ◌*◌, ◌≤◌, ◌<◌, get_or, length, take, drop};
 ghost use Rattle.text.specs.Items.{item_at, items_from, items_of};
 ghost use Rattle.kept.specs.Rows.{state_of, read_of};
 ghost use Rattle.kept.specs.Kept.{Kept};
@@ -96,6 +96,7 @@ impl Source<'_> {
         arrays: &mut Arrays,
     ) -> Walked
         requires { (many * 16 ≤ length lent.now - first) × (from.declared ≤ from.at) }
+        ensures ahead { 0 < many → get_or (take 16 (drop first lent.now)) 1 0 ≡ from.state → get_or (take 16 (drop first lent.now)) 2 0 ≡ from.at → from.at ≤ length self.now.s.now → from.at < result.at }
         ensures few { result.at ≤ length self.now.s.now → result.declared ≤ result.at }
         ensures run { Lent self.now.s.now lent.now first many → Indexed self.now.s.now self.now.cells.now → sheet_run self.now.s.now self.now.cells.now self.now.all result.declared (items_from self.now.s.now (state_of result.state) result.at) (sheet_of arrays.new) ≡ sheet_run self.now.s.now self.now.cells.now self.now.all from.declared (items_from self.now.s.now (state_of from.state) from.at) (sheet_of arrays.old) }
         ensures same { SameArrays arrays.new arrays.old }

@@ -1,11 +1,10 @@
 -- How a function that asks part by part answers for the whole: its first refusal, or else what the last part says.
-use Rattle.std.specs.Prelude.{ℕ, ◌≡◌, List, [], ◌∷◌, ◌++◌, false, Result, Ok, Err, IsErr, IsErrAnd}
+use Rattle.std.specs.Prelude.{◌≡◌, List, [], ◌∷◌, ◌++◌, false, Result, Ok, Err, IsErr, IsErrAnd}
 use Rattle.std.specs.Result.{result_and}
-use Rattle.std.proofs.Common.{arith, sym, ap, ◌∙◌}
-use Rattle.std.proofs.Math.Path.{refl}
+use Rattle.std.proofs.Common.{sym, ap, ◌∙◌}
 use Rattle.std.proofs.lemmas.Result.{err_from_is_err_and}
 use Rattle.text.specs.declared.Refusal.{Refusal}
-use Rattle.refusals.specs.Verdicts.{Verdict, Fine}
+use Rattle.refusals.specs.Verdicts.{Verdict}
 use Rattle.refusals.specs.Checks.{Check, first}
 use Rattle.refusals.specs.ChecksLaws.{first_on, part-ends, fine-one}
 
@@ -29,18 +28,6 @@ asked-none x h p = handed h ∙ rw (← p)
 pub asked-all : {T : Type 0} {x : Result T Refusal} {u : Unit {0}} {v : Verdict} → Ok u ≡ v → x ≡ result_and v x
 asked-all p = rw (← p)
 
-pub all-asked : {T : Type 0} {x : T} (v : Verdict) (y : T) → Ok x ≡ result_and v (Ok y) → Fine ≡ v
-all-asked (Ok u) y p = refl
-all-asked (Err r) y p = let z : ◌≡◌ {A = ℕ} 0 1 = cc in absurd (omega arith)
-
-pub none-asked : {T : Type 0} {e : Refusal} (v : Verdict) (y : T) → Err e ≡ result_and v (Ok y) → Err e ≡ v
-none-asked (Ok u) y p = let z : ◌≡◌ {A = ℕ} 0 1 = cc in absurd (omega arith)
-none-asked {e = e} (Err r) y p = let q : e ≡ r = cc in ap Err q
-
 -- a rule that is asked and refuses nothing is not broken
 pub not-broken : (c : Check) {u : Unit {0}} → Ok u ≡ first (c ∷ []) → c.broken ≡ false
 not-broken c p = (fine-one c [] (sym p)).0
-
-pub all-value : {T : Type 0} {x : T} (v : Verdict) (y : T) → Ok x ≡ result_and v (Ok y) → x ≡ y
-all-value (Ok u) y p = cc
-all-value (Err r) y p = let z : ◌≡◌ {A = ℕ} 0 1 = cc in absurd (omega arith)

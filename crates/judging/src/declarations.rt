@@ -8,7 +8,7 @@ ghost use Rattle.refusals.specs.Declarations.{room_of, new_rules, new_port_rules
 ghost use Rattle.judging.specs.Known.{rows_of, Right};
 ghost use Rattle.judging.specs.Rooms.{fresh_rules, port_room_rules};
 
-use super::{Names, name_rules, rule, type_rules};
+use super::{Names, name_rules, rule, too_long, type_rules};
 use names::{Scope, Sought};
 use refusals::Verdict;
 use text::{Literal, Name};
@@ -32,7 +32,7 @@ impl Names<'_> {
     fn fresh_rules(&self, scope: usize, name: Name) -> Verdict
         ensures { Right self.now → result ≡ first (fresh_rules self.now.text.now (rows_of self.now) scope name) }
     {
-        name_rules(name)?;
+        rule(4, name.start, too_long(name))?;
         let scope = Scope::Numbered(scope);
         let before = names::find(
             self.text, self.cells, self.rows, scope, name.start, name.end,

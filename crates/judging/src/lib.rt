@@ -3,7 +3,7 @@
 // Builds on what names mean, and on the table of names.
 #![tactic(auto)]
 
-ghost use Rattle.std.specs.Prelude.{◌≡◌, Bool, [], ◌∷◌};
+ghost use Rattle.std.specs.Prelude.{◌≡◌, ◌-◌, Bool, [], ◌∷◌, ltb};
 ghost use Rattle.refusals.specs.Checks.{check, first};
 ghost use Rattle.refusals.specs.Refusals.{long_name, clash as clashing, beyond_int};
 ghost use Rattle.refusals.specs.Values.{type_rules, use_rules, value_rules};
@@ -34,11 +34,18 @@ pub fn rule(number: u8, at: usize, broken: bool) -> Verdict
     Ok(())
 }
 
+// 4: whether a name is over 32 bytes.
+fn too_long(name: Name) -> bool
+    ensures { result ≡ ltb 32 (name.end - name.start) }
+{
+    32 < name.end.saturating_sub(name.start)
+}
+
 // A name of which nothing is asked but its length.
 pub fn name_rules(name: Name) -> Verdict
     ensures { result ≡ first (long_name name ∷ []) }
 {
-    rule(4, name.start, 32 < name.end.saturating_sub(name.start))
+    rule(4, name.start, too_long(name))
 }
 
 // A type's name.

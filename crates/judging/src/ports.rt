@@ -1,6 +1,5 @@
 // Ports and arguments as they are written: 4, 6 and 7.
-ghost use Rattle.std.specs.Prelude.{◌≡◌, Ok};
-ghost use Rattle.std.specs.Result.{result_and};
+ghost use Rattle.std.specs.Prelude.{◌≡◌};
 ghost use Rattle.refusals.specs.Checks.{first};
 ghost use Rattle.refusals.specs.Ports.{task_named, output_of, argument_named, dotted_rules, port_rules, argument_rules};
 ghost use Rattle.judging.specs.Known.{rows_of, Right};
@@ -9,7 +8,14 @@ ghost use Rattle.judging.specs.Parted.{parted_rules};
 use super::{Names, clash, name_rules, rule, use_rules};
 use names::Scope;
 use refusals::{Row, Verdict};
-use text::{Port, Refusal};
+use text::Port;
+
+// What an argument breaks, and the type that it has.
+#[derive(Clone, Copy)]
+pub struct Argument {
+    pub verdict: Verdict,
+    pub typ: usize,
+}
 
 // Task "." output, for something of a type.
 fn dotted_rules(wanted: usize, task: Row, output: Row, port: Port) -> Verdict
@@ -24,13 +30,16 @@ fn dotted_rules(wanted: usize, task: Row, output: Row, port: Port) -> Verdict
 
 impl Names<'_> {
     // Task "." output as it is written, where a type is wanted; and the type that the output has.
-    fn parted_rules(&self, wanted: usize, port: Port) -> Result<usize, Refusal>
-        ensures { Right self.now → result ≡ result_and (first (parted_rules self.now.text.now (rows_of self.now) wanted port)) (Ok (output_of self.now.text.now (rows_of self.now) (task_named self.now.text.now (rows_of self.now) port.first) port.second).typ) }
+    fn parted_rules(&self, wanted: usize, port: Port) -> Argument
+        ensures { Right self.now → (result.verdict ≡ first (parted_rules self.now.text.now (rows_of self.now) wanted port)) × (result.typ ≡ (output_of self.now.text.now (rows_of self.now) (task_named self.now.text.now (rows_of self.now) port.first) port.second).typ) }
     {
         let task = meanings::task_named(self.text, self.cells, self.rows, port.first);
         let output = meanings::output_of(self.text, self.cells, self.rows, task, port.second);
-        dotted_rules(wanted, task, output, port)?;
-        Ok(output.typ)
+        let verdict = dotted_rules(wanted, task, output, port);
+        Argument {
+            verdict,
+            typ: output.typ,
+        }
     }
 
     // A port, where a type is wanted.
@@ -38,23 +47,25 @@ impl Names<'_> {
         ensures { Right self.now → result ≡ first (port_rules self.now.text.now (rows_of self.now) wanted port) }
     {
         if port.dotted {
-            self.parted_rules(wanted, port)?;
-            return Ok(());
+            return self.parted_rules(wanted, port).verdict;
         }
         let scope = Scope::Numbered(0);
         let sensor = meanings::named(self.text, self.cells, self.rows, scope, 1, port.first);
         use_rules(wanted, sensor, port.first)
     }
 
-    // What a guard's argument breaks where a type is wanted, or else the type that it has.
-    pub fn argument_rules(&self, wanted: usize, port: Port) -> Result<usize, Refusal>
-        ensures { Right self.now → result ≡ result_and (first (argument_rules self.now.text.now (rows_of self.now) wanted port)) (Ok (argument_named self.now.text.now (rows_of self.now) port).typ) }
+    // What a guard's argument breaks where a type is wanted, and the type that it has.
+    pub fn argument_rules(&self, wanted: usize, port: Port) -> Argument
+        ensures { Right self.now → (result.verdict ≡ first (argument_rules self.now.text.now (rows_of self.now) wanted port)) × (result.typ ≡ (argument_named self.now.text.now (rows_of self.now) port).typ) }
     {
         if port.dotted {
             return self.parted_rules(wanted, port);
         }
         let row = meanings::plain_argument(self.text, self.cells, self.rows, port.first);
-        use_rules(wanted, row, port.first)?;
-        Ok(row.typ)
+        let verdict = use_rules(wanted, row, port.first);
+        Argument {
+            verdict,
+            typ: row.typ,
+        }
     }
 }

@@ -106,10 +106,11 @@ pub(crate) fn operated(names: &Names<'_>, known: Known, row: &[usize; 16]) -> Re
     ensures { Right names.now → result ≡ turn_of names.now.rows (first (argument_rules names.now.text.now (rows_of names.now) (slice_index_or (pair_of known.left known.operand) 0 no_type) (port_at row.now 5))) (operated_by known (argument_named names.now.text.now (rows_of names.now) (port_at row.now 5)).typ) }
 {
     let wanted = operand_wanted(known.left, known.operand);
-    let typ = names.argument_rules(wanted, kept::first_port(row))?;
+    let operand = names.argument_rules(wanted, kept::first_port(row));
+    operand.verdict?;
     Ok(Turn {
         rows: names.rows,
-        known: known.operated(typ),
+        known: known.operated(operand.typ),
     })
 }
 

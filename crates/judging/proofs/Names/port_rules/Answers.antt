@@ -1,14 +1,10 @@
 use Rattle.std.proofs.Common.{ap, ◌∙◌}
 use Rattle.refusals.specs.Checks.{first}
-use Rattle.judging.specs.Asking.{handed, all-asked, none-asked}
 use Rattle.judging.specs.Parted.{port-parted, port-plain}
 use Rattle.judging.proofs.Names.port_rules.Goals as goal
 
-pub returns-in_err-parted_rules : goal.returns-in_err-parted_rules
-returns-in_err-parted_rules c ix = handed c.from_residual.ensures ∙ none-asked _ _ (c.in_err-parted_rules.ensures ix) ∙ ap first (port-parted _ _ _ _ c.if-port.true)
-
 pub returns-then-port : goal.returns-then-port
-returns-then-port c ix = all-asked _ _ (c.in_ok-parted_rules.ensures ix) ∙ ap first (port-parted _ _ _ _ c.if-port.true)
+returns-then-port c ix = (c.parted_rules.ensures ix).0 ∙ ap first (port-parted _ _ _ _ c.if-port.true)
 
 pub returns : goal.returns
 returns c ix = c.use_rules.ensures ∙ rw (c.named-sensor.ensures ix) (ap first (port-plain _ _ _ _ c.if-port.false))

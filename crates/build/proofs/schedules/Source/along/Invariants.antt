@@ -4,7 +4,7 @@ use Rattle.kept.specs.Rows.{state_of}
 use Rattle.names.specs.Index.{Indexed}
 use Rattle.sheets.specs.Sheets.{sheet_of, SameArrays}
 use Rattle.build.specs.Walks.{sheet_run}
-use Rattle.build.specs.Lent.{Lent}
+use Rattle.build.specs.Lent.{Lent, Away}
 use Rattle.build.proofs.schedules.Source.along.Given as goal
 
 abbrev pub invariant-loop-k : goal.invariant-loop-k
@@ -12,6 +12,7 @@ invariant-loop-k l =
     let s = l.self.s.now in
     let cells = l.self.cells.now in
     record {
+      ahead : Away l.initial.walked.state l.initial.walked.at l.k l.walked.state l.walked.at;
       few : l.walked.at ≤ length s → l.walked.declared ≤ l.walked.at;
       run :
           Lent s l.lent l.first l.many → Indexed s cells
