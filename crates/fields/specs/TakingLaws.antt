@@ -1,6 +1,6 @@
 -- How readings go on, said once for every reader.
-use Rattle.std.specs.Prelude.{ℕ, ◌≡◌, refl, List, Result}
-use Rattle.std.proofs.Common.{sym, ap, ◌∙◌}
+use Rattle.std.specs.Prelude.{ℕ, ◌≤◌, ◌≡◌, refl, List, length, drop, Result}
+use Rattle.std.proofs.Common.{arith, sym, ap, ◌∙◌, length-drop}
 use Rattle.std.specs.Result.{IsErrAnd}
 use Rattle.std.proofs.lemmas.Result.{err_from_is_err_and}
 use Rattle.codec.specs.Readings.{Reading, got, no, and_then}
@@ -28,6 +28,18 @@ takes-no p = record { is = rw p refl }
 pub takes-got : {A S : Type 0} {c : Codec A} {store : A → S → S} {l k : S} {bs rest : List ℕ} {a : A} → c.get bs ≡ got a rest → k ≡ store a l → Takes c store (got l bs) (got k rest)
 unfolding taken
 takes-got {rest = rest} p e = record { is = rw p (ap (λ x. got x rest) (sym e)) }
+
+-- what is read is settled where there is no refusal: no second state fits, and no other bytes are left
+pub one_rest : {A S : Type 0} {c : Codec A} {store : A → S → S} {p : Reading S} {rest rest' : List ℕ} {l l' : S} → Takes c store p (got l rest) → Takes c store p (got l' rest') → (rest ≡ rest') × (l ≡ l')
+one_rest {rest = rest} {rest'} {l} {l'} t u = let e : got l rest ≡ got l' rest' = sym t.is ∙ u.is in (cc, cc)
+
+-- nor is a second place of the file the next one, at the end of its bytes too
+pub one_place : {A S : Type 0} (s : List ℕ) {c : Codec A} {store : A → S → S} {p : Reading S} {next next' : ℕ} {l l' : S} → next ≤ length s → next' ≤ length s
+    → Takes c store p (got l (drop next s)) → Takes c store p (got l' (drop next' s)) → (next ≡ next') × (l ≡ l')
+one_place s {next = next} {next'} i j t u =
+    let (d, e) = one_rest t u in
+    let m : length (drop next s) ≡ length (drop next' s) = ap (λ (r : List ℕ). length r) d in
+    (omega (arith, length-drop next s, length-drop next' s), e)
 
 -- the same part, put in under another name
 pub takes-as : {A S : Type 0} {c : Codec A} {f g : A → S → S} {p q : Reading S} → ((a : A) (l : S) → f a l ≡ g a l) → Takes c f p q → Takes c g p q
