@@ -86,6 +86,7 @@ impl Standing {
 
 // Where a machine stands that a host holds in three arrays: numbers (the last accepted count, what remains, the mode, where the next reaction begins, the
 // late task), marks (not 0: stopped; the fault) and sets (the tasks out, waiting, finished).
+#[inline(always)]
 pub fn standing_in(numbers: &[u32; 5], marks: &[u8; 2], sets: &[u64; 3]) -> Standing
     ensures { result ≡ standing_in numbers.now marks.now sets.now }
 {
@@ -112,6 +113,7 @@ fn fits_one(wanted: u32, kind: u32, word: u32) -> bool
 }
 
 // Values are right in number and type: as many types and words as are wanted from a place on, each of the type wanted.
+#[inline(always)]
 pub fn fits(wanted: &[u32], at: u32, count: u32, types: &[u32], words: &[u32]) -> bool
     ensures { result ≡ fits_of (part wanted.now at count) types.now words.now }
 {
@@ -163,6 +165,7 @@ pub fn react_on(
 
 // Tick: 31 machine stopped; 32 readings of wrong count or type; 33 instant missed. Less than what remains: idle, the count is accepted and less remains.
 // Equal: one reaction.
+#[inline(always)]
 pub fn tick_on(
     program: &Program,
     aside: &[u32],
@@ -187,7 +190,14 @@ pub fn tick_on(
             at.remaining = left;
             Reaction::Idle
         }
-        Instant::Due => react_on(program, aside, ports, at, count, words),
+        Instant::Due => {
+            // Copies: what is lent to a call that is not expanded stands in memory, here for a tick that is due alone.
+            let program = *program;
+            let mut standing = *at;
+            let answer = react_on(&program, aside, ports, &mut standing, count, words);
+            *at = standing;
+            answer
+        }
         Instant::Missed => Reaction::Refused(33),
     }
 }

@@ -9,6 +9,7 @@ ghost use Rattle.demands.specs.Uses.{Compiles, Reads, Writes, Judges, Serves, Lo
 
 use emachine::{Finished, Handed, Machine, Ticked};
 use file::Refused;
+use machine::Reaction;
 use prescribed::Compiled;
 use reading::Reading;
 use tables::Table;
@@ -81,4 +82,39 @@ pub fn tasks_out(m: Machine) -> u32
     ensures { CountsOut m result }
 {
     emachine::tasks_out(m)
+}
+
+// ---- the calls of a machine where it lies, as programs make them
+
+// A tick at a count, with the types and words of the readings.
+pub fn tick_in_place(m: &mut Machine, count: u32, types: &[u32], words: &[u32]) -> Reaction
+    ensures { Serves m.old (ticks count types.now words.now) (ticking result) m.new }
+{
+    m.tick(count, types, words)
+}
+
+// The next task to run.
+pub fn next_task_in_place(m: &mut Machine) -> Result<Option<u32>, Refused>
+    ensures { Serves m.old nexts (turning result) m.new }
+{
+    m.next_task()
+}
+
+// A task is finished, with the types and words of its results.
+pub fn finish_in_place(
+    m: &mut Machine,
+    task: u32,
+    types: &[u32],
+    words: &[u32],
+) -> Result<(), Refused>
+    ensures { Serves m.old (finishes task types.now words.now) (finishing result) m.new }
+{
+    m.finish(task, types, words)
+}
+
+// The whole machine, stopped or not.
+pub fn look_in_place(m: &Machine) -> &Machine
+    ensures { Looks m.now result.now }
+{
+    m.look()
 }

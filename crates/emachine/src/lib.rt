@@ -71,8 +71,9 @@ fn program_of(table: &Table) -> Program<'_>
 impl Machine {
     // A tick at a count, with the types and words of the readings.
     pub fn tick(&mut self, count: u32, types: &[u32], words: &[u32]) -> Reaction
-        ensures { ticked_on self.old.table (tick_of (board_in self.old.table) (state_in self.old) count types.now words.now)
+        ensures machine { ticked_on self.old.table (tick_of (board_in self.old.table) (state_in self.old) count types.now words.now)
             ≡ record { answer = result; machine = self.new } }
+        ensures means { reaction_means result ≡ tick_means (board_in self.old.table) (state_in self.old) count types.now words.now }
     {
         let program = program_of(&self.table);
         calls::tick_on(
@@ -88,15 +89,17 @@ impl Machine {
 
     // The next task to run.
     pub fn next_task(&mut self) -> Result<Option<u32>, Refused>
-        ensures { handed_on self.old.table (next_task (state_in self.old)) ≡ record { answer = result; machine = self.new } }
+        ensures machine { handed_on self.old.table (next_task (state_in self.old)) ≡ record { answer = result; machine = self.new } }
+        ensures means { turn_means result ≡ next_means (state_in self.old) }
     {
         calls::next_on(&mut self.standing)
     }
 
     // A task is finished, with the types and words of its results.
     pub fn finish(&mut self, task: u32, types: &[u32], words: &[u32]) -> Result<(), Refused>
-        ensures { finished_on self.old.table (finish_of (board_in self.old.table) (state_in self.old) task types.now words.now)
+        ensures machine { finished_on self.old.table (finish_of (board_in self.old.table) (state_in self.old) task types.now words.now)
             ≡ record { answer = result; machine = self.new } }
+        ensures means { finishing_means result ≡ finish_means (board_in self.old.table) (state_in self.old) task types.now words.now }
     {
         calls::finish_on(
             &self.table.task_rows,
@@ -107,6 +110,13 @@ impl Machine {
             types,
             words,
         )
+    }
+
+    // The whole machine, stopped or not.
+    pub fn look(&self) -> &Machine
+        ensures { result.now ≡ machine_of self.now.table (look_of (state_in self.now)) }
+    {
+        self
     }
 }
 

@@ -195,6 +195,7 @@ fn sets_in(at: &Standing) -> [u64; 3]
 }
 
 // What a tick, next and finish leave in the host's arrays: after a refusal what they held.
+#[inline(always)]
 fn write_ticked(
     answer: Reaction,
     at: &Standing,

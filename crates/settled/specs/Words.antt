@@ -1,7 +1,7 @@
 -- The words of a request line and of its answer, and the names of a table's ports.
 use Rattle.std.specs.Prelude.{◌≡◌, refl, List, []}
 use Rattle.std.proofs.Common.{sym, ap, ◌∙◌}
-use Rattle.settled.specs.Settled.{Settled}
+use Rattle.settled.specs.Settled.{Settled, SettledAs}
 use Rattle.lines.proofs.find.Kinds as find
 use Rattle.lines.proofs.find.Reads as find-reads
 use Rattle.lines.proofs.word.Kinds as word
@@ -30,6 +30,8 @@ use Rattle.lines.proofs.saying.value.Kinds as saying-value
 use Rattle.lines.proofs.saying.value.Reads as saying-value-reads
 use Rattle.lines.proofs.saying.values.Kinds as saying-values
 use Rattle.lines.proofs.saying.values.Reads as saying-values-reads
+use Rattle.naming.proofs.named.Kinds as named
+use Rattle.naming.proofs.named.Reads as named-reads
 use Rattle.naming.proofs.name.Kinds as name
 use Rattle.naming.proofs.name.Reads as name-reads
 use Rattle.naming.proofs.Names.port.Kinds as port
@@ -85,6 +87,9 @@ saying-value-settled κs arguments one other held kept p q = (p.place ∙ sym q.
 
 pub saying-values-settled : Settled saying-values.ps saying-values.r saying-values-reads.Post
 saying-values-settled κs arguments one other held kept p q = (p.place ∙ sym q.place, λ i. ((p.held ∙ sym q.held) i, (tt, (tt, (tt, (tt, tt))))))
+
+pub named-settled : SettledAs named.ps named.r (λ κs answer. answer.now) named-reads.Post
+named-settled κs arguments one other held kept p q = (p ∙ sym q, refl)
 
 pub name-settled : Settled name.ps name.r name-reads.Post
 name-settled κs arguments one other held kept p q = (p.place ∙ sym q.place, λ i. ((p.held ∙ sym q.held) i, (tt, (tt, (tt, tt)))))

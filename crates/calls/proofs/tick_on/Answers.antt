@@ -23,7 +23,7 @@ pub returns-in-Due : goal.returns-in-Due
 returns-in-Due c =
     let a = c.args in
     let p = a.program.now in
-    c.react_on.ensures
+    c.react_on-answer.ensures
     ∙ tick-due p.instructions p.code.now p.drivers.now p.guards.now p.modes.now p.tasks.now p.types.now [] p.sensors 0 (state_of a.at.now a.ports.now a.aside.now) a.count a.types.now a.words.now c.if-at.false (sym c.fits.ensures ∙ c.if-not-fits.false) (due-is _ (sym c.judge.ensures ∙ c.in-Due.is))
 
 pub returns-in-Missed : goal.returns-in-Missed

@@ -13,7 +13,7 @@ loop-k-preserved c =
     let m = c.loop-k.machine in
     let a = c.args in
     ap (λ (served : Ticked). ticks_from a.later a.types.now a.words.now (a.times - (c.loop-k._k + 1)) served.machine)
-    (sym c.tick.ensures)
+    (sym c.tick.ensures.machine)
     ∙ ticks-on a.later a.types.now a.words.now a.times c.loop-k._k m c.loop-k-test.true
     ∙ c.loop-k.invariant
 
