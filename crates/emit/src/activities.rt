@@ -22,6 +22,7 @@ pub(crate) enum Kind {
 
 impl Kind {
     // What an activity does.
+    #[inline(always)]
     fn body(self, code: &mut Listing, what: usize, driver: usize)
         requires { (code.old.pc + 2 ≤ count_room) × (what < 4294967296) × (driver < 4294967296) }
         ensures code { Emitted (listed code.old) (listed code.new) (fixed (body_of self what driver)) 2 }
@@ -39,6 +40,7 @@ impl Kind {
     }
 
     // How many instructions that is.
+    #[inline(always)]
     fn size(self) -> usize
         ensures { ((what driver : ℕ) → length (body_of self what driver) ≡ result) × (result ≤ 2) }
     {
@@ -49,6 +51,7 @@ impl Kind {
     }
 
     // The guard that counts: a termination has none.
+    #[inline(always)]
     fn guard(self, guard: u32) -> u32
         ensures { guard_by result ≡ guard_for self (guard_by guard) }
     {
@@ -59,6 +62,7 @@ impl Kind {
     }
 
     // An `if` in front of a guarded activity, whose else goes behind it.
+    #[inline(always)]
     fn guarded(self, code: &mut Listing, guard: u32, what: usize, driver: usize)
         requires { (code.old.pc + 3 ≤ count_room) × (what < 4294967296) × (driver < 4294967296) }
         ensures code { Emitted (listed code.old) (listed code.new) (guarded_of (guard_by guard) (body_of self what driver)) 3 }
@@ -72,6 +76,7 @@ impl Kind {
     }
 
     // Whether that is due where the slots of its frequency do so.
+    #[inline(always)]
     fn is_due(self, marks: Marks) -> bool
         ensures { result ≡ due_by self marks }
     {
@@ -119,6 +124,7 @@ impl<'a> Instant<'a> {
     }
 
     // What the slots of a frequency do.
+    #[inline(always)]
     fn marks(&self, frequency: usize) -> Marks
         ensures { Edge self.now.frame.period self.now.t frequency result }
     {
@@ -130,6 +136,7 @@ impl<'a> Instant<'a> {
     }
 
     // The activity of a row; the sooner of `soon` and its first slot end ahead.
+    #[inline(always)]
     fn turn(&self, code: &mut Listing, kind: Kind, row: usize, driver: usize, soon: usize) -> usize
         requires { (code.old.pc + 3 ≤ count_room) × (row < 5000000000) × (driver < 4294967296) × (soon ≤ never) }
         ensures code { Emitted (listed code.old) (listed code.new) (line kind self.now.frame.period self.now.t driver (act_by self.now.acts.now row)) 3 }
@@ -148,6 +155,7 @@ impl<'a> Instant<'a> {
     }
 
     // The activities of a group; the sooner of `soon` and their first slot end ahead.
+    #[inline(always)]
     pub(crate) fn run(&self, code: &mut Listing, group: Group, soon: usize) -> usize
         requires { (code.old.pc + 3 * group.count ≤ count_room) × (group.row + group.count < 5000000000) × (group.driver + group.count < 4294967296) × (soon ≤ never) }
         ensures code { Emitted (listed code.old) (listed code.new) (lines group.kind self.now.frame.period self.now.t group.driver (acts_by self.now.acts.now group.row group.count)) (3 * group.count) }

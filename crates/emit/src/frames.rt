@@ -47,6 +47,7 @@ impl Frame {
     }
 
     // The activities of a kind.
+    #[inline(always)]
     pub(crate) fn group(self, kind: Kind) -> Group
         ensures rows { result ≡ group_of self kind }
         ensures few { result.count ≤ 32 }

@@ -90,6 +90,16 @@ fn function_number(word: &[u8]) -> u32
     }
 }
 
+// Letters over as many cells, one by one: they are few, and a call of the library costs more.
+fn copy(cells: &mut [u8], letters: &[u8])
+    requires { length cells.old ≡ length letters.now }
+    ensures { cells.new ≡ letters.now }
+{
+    for k in 0..letters.len() {
+        cells[k] = letters[k];
+    }
+}
+
 // A name, to the row of cells that begins at a place; one of more than 32 bytes is no name and goes nowhere.
 pub fn put_name(names: &mut [u8], place: usize, word: &[u8])
     ensures row { length word.now ≤ 32 → names.new ≡ stored names.old place (name_cells word.now) }
@@ -102,6 +112,6 @@ pub fn put_name(names: &mut [u8], place: usize, word: &[u8])
         let from = place + 1;
         let end = names.len().min(from + word.len());
         names[place] = word.len() as u8;
-        names[from..end].copy_from_slice(&word[..end - from]);
+        copy(&mut names[from..end], &word[..end - from]);
     }
 }

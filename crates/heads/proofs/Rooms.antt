@@ -1,8 +1,5 @@
 -- Values put into cells one after the other: past the end nothing is put.
-use Rattle.std.proofs.Common.{append_assoc, ℕ, zero, suc, ◌+◌, ◌-◌, ◌≤◌, ◌≡◌, min, refl, sym, ap, ◌∙◌, List, [], ◌∷◌, ◌++◌, length, take, drop, set, arith, length-take-le, take_all}
-use Rattle.std.proofs.Math.ListN.{length-set}
-use Rattle.std.proofs.lemmas.Slice.{take-put_mid, drop-put_mid}
-use borrow.Rule.Slice.PartMut.{put_mid}
+use Rattle.std.proofs.Common.{ℕ, zero, suc, ◌+◌, ◌-◌, ◌≤◌, ◌≡◌, min, refl, sym, ap, ◌∙◌, List, [], ◌∷◌, ◌++◌, length, take, drop, set, arith, length-take-le, take_all}
 use Rattle.std.proofs.lemmas.List.{take-append-drop}
 use Rattle.std.proofs.lemmas.List.Edits.{sets, sets-eq}
 use Rattle.std.proofs.Math.Seq.{set_out, length-sets}
@@ -17,7 +14,7 @@ module _ {A : Type 0} where
   sets-append (v ∷ vs) ws l i = sets-append vs ws (set l i v) (suc i) ∙ ap (λ (k : ℕ). sets (sets (set l i v) (suc i) vs) k ws) (omega arith)
 
   -- the first of them that have room
-  stores-eq : (vs l : List A) (i n : ℕ) → i ≤ length l → n ≡ min (length vs) (length l - i) → take i l ++ take n vs ++ drop (i + n) l ≡ sets l i vs
+  pub stores-eq : (vs l : List A) (i n : ℕ) → i ≤ length l → n ≡ min (length vs) (length l - i) → take i l ++ take n vs ++ drop (i + n) l ≡ sets l i vs
   stores-eq vs l i n h e =
       let long : length (take n vs) ≡ n = length-take-le n vs (omega arith) in
       let fits : i + length (take n vs) ≤ length l = omega arith in
@@ -30,11 +27,3 @@ module _ {A : Type 0} where
           let long : length (take n vs) ≡ n = length-take-le n vs (omega arith) in
           let far : length (sets l i (take n vs)) ≤ i + length (take n vs) = omega (arith, length-sets l i (take n vs)) in
           sym (ap (λ (w : List A). sets l i w) (sym (take-append-drop n vs)) ∙ sets-append (take n vs) (drop n vs) l i ∙ sets-past (drop n vs) (sets l i (take n vs)) (i + length (take n vs)) far)
-
-  -- a part that is written, as long as there is room
-  pub part-stored : (vs l ys : List A) (i n k : ℕ) → i ≤ length l → n ≡ min (length vs) (length l - i) → k ≡ n → ys ≡ take n vs → put_mid i k l ys ≡ sets l i vs
-  part-stored vs l ys i n k h e f g =
-      let long : length ys ≡ n = ap length g ∙ length-take-le n vs (omega arith) in
-      let front : take (i + n) (put_mid i k l ys) ≡ take i l ++ ys = take-put_mid i k l ys (i + n) (omega arith) h in
-      let back : drop (i + n) (put_mid i k l ys) ≡ drop (i + n) l = drop-put_mid i k l ys (i + n) (omega arith) h (omega arith) in
-      sym (take-append-drop (i + n) (put_mid i k l ys)) ∙ rw (front, back, g) (stores-eq vs l i n h e)

@@ -8,6 +8,7 @@ use productions::{activities, close};
 use text::{Lexed, ReadItem, State, Token};
 
 // What an activity of section k does, by its first token, which is found.
+#[inline(always)]
 #[tactic(auto, unfolding(crate::specs::Bodies::target_of))]
 pub fn target(s: &[u8], k: u8, found: Lexed) -> ReadItem
     ensures { result ≡ target_of s.now k found }

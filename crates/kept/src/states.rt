@@ -1,26 +1,53 @@
 // A state as one number: which it is, and behind that the number of its section.
 ghost use Rattle.std.specs.Prelude.{◌≡◌};
 ghost use Rattle.kept.specs.Rows.{state_of};
-ghost use Rattle.kept.specs.States.{number_of};
+ghost use Rattle.kept.specs.States.{which_of, section_of, number_of};
 
 use text::State;
+
+// Which state it is, its section aside.
+#[inline(always)]
+fn which(state: State) -> usize
+    ensures { result ≡ which_of state }
+{
+    match state {
+        State::Begin => 0,
+        State::Module(_) => 1,
+        State::Task(_) => 2,
+        State::Mode(_) => 3,
+        State::Act(_) => 4,
+        State::Guarded(_) => 5,
+        State::GuardArgs(_) => 6,
+        State::Args => 7,
+        State::Finish => 8,
+    }
+}
+
+// The section of a state, or 0.
+#[inline(always)]
+fn section(state: State) -> u8
+    ensures { result ≡ section_of state }
+{
+    match state {
+        State::Begin => 0,
+        State::Module(section) => section,
+        State::Task(section) => section,
+        State::Mode(section) => section,
+        State::Act(section) => section,
+        State::Guarded(section) => section,
+        State::GuardArgs(section) => section,
+        State::Args => 0,
+        State::Finish => 0,
+    }
+}
 
 // The number of a state.
 pub fn number_of(state: State) -> usize
     ensures number { result ≡ number_of state }
     ensures state { state_of result ≡ state }
 {
-    let (which, section) = match state {
-        State::Begin => (0, 0),
-        State::Module(k) => (1, k),
-        State::Task(k) => (2, k),
-        State::Mode(k) => (3, k),
-        State::Act(k) => (4, k),
-        State::Guarded(k) => (5, k),
-        State::GuardArgs(k) => (6, k),
-        State::Args => (7, 0),
-        State::Finish => (8, 0),
-    };
+    let which = which(state);
+    let section = section(state);
     section as usize * 16 + which
 }
 

@@ -7,7 +7,9 @@ ghost use Rattle.names.specs.Index.{Indexed};
 
 use super::{Scope, Sought, cell, row};
 
-// How many of the first n rows there are of those, row by row.
+// How many of the first n rows there are of those, row by row: mostly the index has their number.
+#[cold]
+#[inline(never)]
 fn counted(cells: &[usize], n: usize, sought: Sought) -> usize
     ensures { result ≡ count (is_of sought) (rows_in cells.now n) }
 {
@@ -21,6 +23,7 @@ fn counted(cells: &[usize], n: usize, sought: Sought) -> usize
 }
 
 // Those of a sort.
+#[inline(always)]
 pub fn of_sort(cells: &[usize], n: usize, sort: usize) -> usize
     ensures { (s : List ℕ) → Indexed s cells.now → result ≡ count (is_sort sort) (rows_in cells.now n) }
 {
@@ -32,6 +35,7 @@ pub fn of_sort(cells: &[usize], n: usize, sort: usize) -> usize
 }
 
 // The ports.
+#[inline(always)]
 pub fn of_ports(cells: &[usize], n: usize) -> usize
     ensures { (s : List ℕ) → Indexed s cells.now → result ≡ count is_port (rows_in cells.now n) }
 {
@@ -43,6 +47,7 @@ pub fn of_ports(cells: &[usize], n: usize) -> usize
 }
 
 // The inputs or the outputs of a scope.
+#[inline(always)]
 pub fn of_scope(cells: &[usize], n: usize, scope: Scope, sort: usize) -> usize
     ensures { (s : List ℕ) → Indexed s cells.now → result ≡ count (is_port_of (scope_of scope) sort) (rows_in cells.now n) }
 {

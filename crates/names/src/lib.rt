@@ -161,7 +161,9 @@ fn is_row(s: &[u8], row: Row, scope: usize, word: &[u8]) -> bool
     row.scope == scope && scan::same(s, row.start, row.end, word)
 }
 
-// What a name means, where all rows are gone through.
+// What a name means, where all rows are gone through: mostly the index tells.
+#[cold]
+#[inline(never)]
 fn searched(s: &[u8], cells: &[usize], n: usize, scope: usize, word: &[u8]) -> Row
     ensures { result ≡ find_row s.now (rows_in cells.now n) scope word.now }
 {
@@ -211,10 +213,12 @@ fn is_named(s: &[u8], cells: &[usize], k: usize, word: &[u8]) -> bool
 {
     let first = k * 8 + 1280;
     let name = scan::part(s, cells[first], cells[first + 1]);
-    name.len() == word.len() && (word.len() <= 8 || name == word)
+    name.len() == word.len()
+        && (word.len() <= 8 || scan::same(s, cells[first], cells[first + 1], word))
 }
 
 // Where the index finds the first of the first n rows that is of a scope and has this name.
+#[inline(never)]
 fn place(s: &[u8], cells: &[usize], n: usize, scope: usize, word: &[u8]) -> Lookup
     ensures { Placed s.now cells.now n scope word.now result }
 {
@@ -234,6 +238,7 @@ fn place(s: &[u8], cells: &[usize], n: usize, scope: usize, word: &[u8]) -> Look
 }
 
 // What the name that stands from start up to end means in the scope of a number, among the first n rows.
+#[inline(always)]
 pub fn found(s: &[u8], cells: &[usize], n: usize, scope: usize, start: usize, end: usize) -> Row
     ensures { Indexed s.now cells.now → result ≡ find_row s.now (rows_in cells.now n) scope (slice start end s.now) }
 {
@@ -246,6 +251,7 @@ pub fn found(s: &[u8], cells: &[usize], n: usize, scope: usize, start: usize, en
 }
 
 // What the name that stands from start up to end means in a scope, among the first n rows.
+#[inline(always)]
 pub fn find(s: &[u8], cells: &[usize], n: usize, scope: Scope, start: usize, end: usize) -> Row
     ensures { Indexed s.now cells.now → result ≡ find_row s.now (rows_in cells.now n) (scope_of scope) (slice start end s.now) }
 {
@@ -256,6 +262,7 @@ pub fn find(s: &[u8], cells: &[usize], n: usize, scope: Scope, start: usize, end
 }
 
 // How many of the first n rows there are of those.
+#[inline(always)]
 pub fn count(cells: &[usize], n: usize, sought: Sought) -> usize
     ensures { (s : List ℕ) → Indexed s cells.now → result ≡ count_of (is_of sought) (rows_in cells.now n) }
 {

@@ -14,6 +14,7 @@ struct Call {
 }
 
 // Behind "(": ")", which is found, and a closing token.
+#[inline(always)]
 #[tactic(auto, unfolding(crate::specs::Read::whole_of))]
 fn whole(
     s: &[u8],
@@ -33,6 +34,7 @@ fn whole(
 }
 
 // Behind "(": arguments, the first token of which is found; as far as the "(".
+#[inline(always)]
 #[tactic(auto, unfolding(crate::specs::Read::listed_of))]
 fn listed(s: &[u8], head: Result<(Name, usize), Refusal>, found: Lexed) -> Result<Call, Refusal>
     requires { Behind s.now head found }
@@ -47,6 +49,7 @@ fn listed(s: &[u8], head: Result<(Name, usize), Refusal>, found: Lexed) -> Resul
 }
 
 // Behind a name and its "(", or where they are refused: whether ")" follows, and the call.
+#[inline(always)]
 #[tactic(auto, unfolding(crate::specs::Read::call_of))]
 fn called(
     s: &[u8],
@@ -61,10 +64,9 @@ fn called(
     };
     let found = scan::token(s, at);
     if found.token == Token::RightParen {
-        (true, whole(s, head, found, closing))
-    } else {
-        (false, listed(s, head, found))
+        return (true, whole(s, head, found, closing));
     }
+    (false, listed(s, head, found))
 }
 
 // name "("
@@ -111,6 +113,7 @@ pub fn guard(s: &[u8], k: u8, found: Lexed) -> ReadItem
 }
 
 // name, which is found, "(", and ")" ";" where it has no port
+#[inline(always)]
 #[tactic(auto, unfolding(crate::specs::Read::invoke_of))]
 pub fn invoke(s: &[u8], found: Lexed) -> ReadItem
     ensures { result ≡ invoke_of s.now found }
@@ -124,6 +127,7 @@ pub fn invoke(s: &[u8], found: Lexed) -> ReadItem
 }
 
 // Behind an argument, or where it is refused: whether "," follows, and the argument, with its "," or with ")" and a closing token.
+#[inline(always)]
 #[tactic(auto, unfolding(crate::specs::Read::argument_of))]
 fn argument(s: &[u8], at: usize, closing: Token) -> (bool, Result<(Port, usize), Refusal>)
     ensures { result ≡ argument_of s.now at closing }
@@ -134,10 +138,9 @@ fn argument(s: &[u8], at: usize, closing: Token) -> (bool, Result<(Port, usize),
         Err(refusal) => scan::token(s, refusal.at),
     };
     if found.token == Token::Comma {
-        (true, read.map(|(port, found)| (port, found.end)))
-    } else {
-        (false, last(s, read, closing))
+        return (true, read.map(|(port, found)| (port, found.end)));
     }
+    (false, last(s, read, closing))
 }
 
 // The last argument with its ")" and a closing token.

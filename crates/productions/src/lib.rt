@@ -17,15 +17,19 @@ mod ports;
 pub mod tasks;
 
 // An item and the place behind it, or a refusal, in front of this state.
+#[inline(always)]
 pub fn close(state: State, read: Result<(Item, usize), Refusal>) -> ReadItem
     ensures { result ≡ closed_of state read }
 {
+    // Returned from each arm: the value of a `match` is built elsewhere and copied.
     match read {
-        Ok((item, next)) => ReadItem { item, state, next },
-        Err(Refusal { number, at }) => ReadItem {
-            item: Item::No { number, at },
-            state,
-            next: at,
-        },
+        Ok((item, next)) => return ReadItem { item, state, next },
+        Err(Refusal { number, at }) => {
+            return ReadItem {
+                item: Item::No { number, at },
+                state,
+                next: at,
+            };
+        }
     }
 }

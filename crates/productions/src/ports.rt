@@ -1,8 +1,21 @@
 // Port: a sensor's name, or task "." output. Arg: a port or a constant's name.
-ghost use Rattle.std.specs.Prelude.{◌≡◌};
+ghost use Rattle.std.specs.Prelude.{◌≡◌, Ok};
 ghost use Rattle.productions.specs.Read.{port_of};
 
 use text::{Lexed, Port, Refusal, Token};
+
+// Field by field: a copy of the whole token takes along what lies between its fields.
+#[inline(always)]
+fn with(port: Port, found: Lexed) -> Result<(Port, Lexed), Refusal>
+    ensures { result ≡ Ok (port, found) }
+{
+    let behind = Lexed {
+        token: found.token,
+        start: found.start,
+        end: found.end,
+    };
+    Ok((port, behind))
+}
 
 // A port and the token behind it.
 #[tactic(auto, unfolding(crate::specs::Read::port_of, crate::specs::Read::port_by))]
@@ -14,23 +27,24 @@ pub fn read(s: &[u8], at: usize) -> Result<(Port, Lexed), Refusal>
     match found.token {
         Token::Dot => {
             let second = wants::next(s, found.end, Token::Name)?;
-            let dotted = true;
-            Ok((
+            return with(
                 Port {
                     first,
                     second,
-                    dotted,
+                    dotted: true,
                 },
                 scan::list_token(s, second.end),
-            ))
+            );
         }
-        _ => Ok((
-            Port {
-                first,
-                second: first,
-                dotted: false,
-            },
-            found,
-        )),
+        _ => {
+            return with(
+                Port {
+                    first,
+                    second: first,
+                    dotted: false,
+                },
+                found,
+            );
+        }
     }
 }

@@ -1,6 +1,6 @@
 -- Parts of a text whose end may lie behind the text's, or before their start.
 use Rattle.std.specs.Prelude.{ℕ, zero, suc, ◌+◌, ◌-◌, ◌*◌, ◌≤◌, ◌<◌, min, ◌≡◌, refl, List, [], ◌∷◌, Bool, true, false, cond, ◌&&◌, length, get_or, take, drop, eqb, ltb}
-use Rattle.std.proofs.Common.{sym, ap, ◌∙◌, arith, ltb-true, ltb-false, length-take, length-drop}
+use Rattle.std.proofs.Common.{sym, ap, ◌∙◌, arith, ltb-true, ltb-false, length-take, length-drop, eq-eqb, ne_eqb}
 use Rattle.std.proofs.lemmas.List.{drop-take}
 use Rattle.std.specs.Cmp.Lexicographic.{pointwise}
 use Rattle.std.proofs.Math.Nat.{zero-min, min-zero, suc-min-suc}
@@ -40,6 +40,20 @@ same-pointwise (x ∷ xs) (y ∷ ys) = by (eqb x y) (same-pointwise xs ys)
     by : (t : Bool) → pointwise eqb xs ys ≡ same xs ys → (t && pointwise eqb xs ys) ≡ cond t (same xs ys) false
     by true e = e
     by false e = refl
+
+-- words whose first j bytes are the same
+module _ (a b : List ℕ) (j : ℕ) where
+  pub same-next : j < length a → j < length b → get_or a j 0 ≡ get_or b j 0 → same (drop j a) (drop j b) ≡ same (drop (j + 1) a) (drop (j + 1) b)
+  unfolding same
+  same-next h k q = rw (drop-step a j h, drop-step b j k) (simp (eq-eqb _ _ q))
+
+  pub same-stops : j < length a → j < length b → (get_or a j 0 ≡ get_or b j 0 → ⊥) → same (drop j a) (drop j b) ≡ false
+  unfolding same
+  same-stops h k q = rw (drop-step a j h, drop-step b j k) (simp (ne_eqb _ _ q))
+
+  pub same-over : length a ≤ j → length b ≤ j → same (drop j a) (drop j b) ≡ true
+  unfolding same
+  same-over h k = rw (drop_of_length-le a h, drop_of_length-le b k)
 
 -- a start behind the end as the end
 pub slice-least : (i e : ℕ) (s : List ℕ) (from : ℕ) → from ≡ min i e → slice from e s ≡ slice i e s

@@ -3,6 +3,7 @@ ghost use Rattle.std.specs.Prelude.{◌≡◌};
 ghost use Rattle.text.specs.Tokens.{word_token};
 ghost use Rattle.scan.specs.KeyMarks.{Candidate};
 
+use super::words;
 use text::Token;
 
 // The only keyword that a word can be, by its mark: its first letter, twice its last but one and five times its length.
@@ -45,7 +46,7 @@ pub(crate) fn word_token(word: &[u8]) -> Token
         return Token::Name;
     }
     match candidate(word[0] as usize + word[n - 2] as usize * 2 + n * 5) {
-        Some((keyword, token)) if word == keyword => token,
+        Some((keyword, token)) if words::alike(word, keyword) => token,
         _ => Token::Name,
     }
 }

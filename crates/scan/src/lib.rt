@@ -102,8 +102,8 @@ fn starts_at(s: &[u8], at: usize, b: u8) -> Lexed
     }
 }
 
-// The token at a place of the text, behind white space and comments.
-pub fn token(s: &[u8], at: usize) -> Lexed
+// The token behind white space and comments that begin at a place.
+fn first_token(s: &[u8], at: usize) -> Lexed
     ensures { result ≡ token_at s.now at }
 {
     match spaces::first(s, at) {
@@ -111,6 +111,15 @@ pub fn token(s: &[u8], at: usize) -> Lexed
         spaces::Place::End(place) => found(Token::End, place, place),
         spaces::Place::Open(place) => found(Token::Bad, place, place),
     }
+}
+
+// The token at a place of the text, behind white space and comments.
+pub fn token(s: &[u8], at: usize) -> Lexed
+    ensures { result ≡ token_at s.now at }
+{
+    // Field by field: a copy of the whole takes along what lies between them.
+    let lexed = first_token(s, at);
+    found(lexed.token, lexed.start, lexed.end)
 }
 
 // The token at a place of a list of names; the sign behind a name mostly stands at the place itself.

@@ -17,7 +17,13 @@ pub enum Place {
 fn is_white(b: u8) -> bool
     ensures { result ≡ white b }
 {
-    matches!(b, b' ' | b'\n' | b'\r' | b'\t')
+    match b {
+        b' ' => true,
+        b'\n' => true,
+        b'\r' => true,
+        b'\t' => true,
+        _ => false,
+    }
 }
 
 // The place behind the first LF from `at` on, or the end of the text.
@@ -88,8 +94,8 @@ pub fn first(s: &[u8], at: usize) -> Place
 {
     for i in at..s.len() {
         match s[i] {
-            b'/' => return behind(s, i),
             b if is_white(b) => {}
+            b'/' => return behind(s, i),
             b => return Place::Byte(i, b),
         }
     }

@@ -22,7 +22,13 @@ pub fn is_letter(b: u8) -> bool
 pub fn is_word(b: u8) -> bool
     ensures { result ≡ word_byte b }
 {
-    b.is_ascii_alphanumeric() || b == b'_'
+    if b.is_ascii_digit() {
+        return true;
+    }
+    if b < b'0' {
+        return false;
+    }
+    is_letter(b)
 }
 
 // Whether a byte goes on a name but no keyword.
@@ -90,7 +96,22 @@ pub fn part(s: &[u8], start: usize, end: usize) -> &[u8]
 pub fn same(s: &[u8], start: usize, end: usize, word: &[u8]) -> bool
     ensures { result ≡ same_word (slice start end s.now) word.now }
 {
-    part(s, start, end) == word
+    alike(part(s, start, end), word)
+}
+
+// Whether two words are the same. They are short, and a call of the library would cost more than the comparison.
+pub(crate) fn alike(word: &[u8], other: &[u8]) -> bool
+    ensures { result ≡ same_word word.now other.now }
+{
+    if word.len() != other.len() {
+        return false;
+    }
+    for j in 0..word.len() {
+        if word[j] != other[j] {
+            return false;
+        }
+    }
+    true
 }
 
 // The value of the digits from start up to end, or 4294967296 where it is more.

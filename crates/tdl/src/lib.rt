@@ -4,6 +4,7 @@
 #![tactic(auto)]
 
 ghost use Rattle.std.specs.Prelude.{◌≡◌, length};
+ghost use Rattle.prescribed.specs.Acceptance.{Readable};
 ghost use Rattle.prescribed.specs.Compiles.{compile_of};
 ghost use Rattle.prescribed.specs.Answers.{answered, buffered};
 ghost use Rattle.kept.specs.Kept.{Kept};
@@ -49,6 +50,7 @@ fn scheduled<'a>(
     requires { Unbroken text.now names.now rows × Kept text.now memo.now × Declares text.now names.now ports name.now sensor_names.now actuator_names.now task_names.now output_names.now types.now starts.now task_rows.now }
     ensures { Compiles text.now out.old result out.new }
 {
+    let mut code = [0u32; 12288];
     let mut guard_rows = [0u32; 1536];
     let mut driver_rows = [0u32; 3456];
     let mut acts = [0u32; 768];
@@ -68,7 +70,6 @@ fn scheduled<'a>(
         &mut modes,
     );
     let filled = plan.filled;
-    let mut code = [0u32; 12288];
     let count = coding::coded(
         &modes,
         filled.modes,
@@ -165,6 +166,16 @@ fn translated<'a>(
     )
 }
 
+// A text that is read to its end, whose items are kept. Its names stand first here: an array behind a call is cleared twice.
+fn judged<'a>(text: &'a [u8], memo: &'a [usize], out: &mut [u8]) -> Compiled
+    requires { Readable text.now × Kept text.now memo.now }
+    ensures { Compiles text.now out.old result out.new }
+{
+    let mut names = [0usize; 4672];
+    let rows = rules::judge(text, memo, &mut names)?;
+    translated(text, memo, &names, rows, out)
+}
+
 // The passes over a text, one after the other; the first that refuses it ends them.
 fn passes(text: &[u8], out: &mut [u8]) -> Compiled
     ensures { Compiles text.now out.old result out.new }
@@ -174,9 +185,7 @@ fn passes(text: &[u8], out: &mut [u8]) -> Compiled
     }
     let mut memo = [0usize; 16400];
     kept::syntax(text, &mut memo)?;
-    let mut names = [0usize; 4672];
-    let rows = rules::judge(text, &memo, &mut names)?;
-    translated(text, &memo, &names, rows, out)
+    judged(text, &memo, out)
 }
 
 // The file of a text at the front of the buffer, or the refusal.

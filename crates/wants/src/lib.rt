@@ -13,6 +13,7 @@ use text::{Lexed, Name, Refusal, Token};
 mod signs;
 
 // 2 where the bytes start no token, else 3.
+#[inline(always)]
 pub fn refusal(found: Lexed) -> Refusal
     ensures { result ≡ refusal_in (refusal_of found) }
 {
@@ -23,6 +24,7 @@ pub fn refusal(found: Lexed) -> Refusal
 }
 
 // The token found, where it may stand here.
+#[inline(always)]
 fn allow(allowed: bool, found: Lexed) -> Result<Name, Refusal>
     ensures { result ≡ told (allowed_of allowed found) }
 {
@@ -37,6 +39,7 @@ fn allow(allowed: bool, found: Lexed) -> Result<Name, Refusal>
 }
 
 // The token found, which must be t.
+#[inline(always)]
 pub fn given(found: Lexed, t: Token) -> Result<Name, Refusal>
     ensures { result ≡ told (want_of t found) }
 {
@@ -44,6 +47,7 @@ pub fn given(found: Lexed, t: Token) -> Result<Name, Refusal>
 }
 
 // The token found, whichever it is, but not the end.
+#[inline(always)]
 pub fn given_any(found: Lexed) -> Result<Name, Refusal>
     ensures { result ≡ told (any_of found) }
 {
@@ -51,6 +55,7 @@ pub fn given_any(found: Lexed) -> Result<Name, Refusal>
 }
 
 // The next token, which must be t.
+#[inline(always)]
 pub fn next(s: &[u8], at: usize, t: Token) -> Result<Name, Refusal>
     ensures { result ≡ told (want t s.now (from at)) }
 {

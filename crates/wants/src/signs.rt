@@ -6,6 +6,7 @@ ghost use Rattle.scan.specs.Others.{Standing};
 use text::Token;
 
 // The byte that a sign is.
+#[inline(always)]
 fn byte_of(t: Token) -> Option<u8>
     ensures { IfSome result (λ b. Standing b t) }
 {
@@ -26,6 +27,7 @@ fn byte_of(t: Token) -> Option<u8>
 }
 
 // The place behind the sign t, where that stands at a place or behind a blank there.
+#[inline(always)]
 pub(crate) fn end_at(s: &[u8], at: usize, t: Token) -> Option<usize>
     ensures { IfSome result (Ends s.now at t) }
 {

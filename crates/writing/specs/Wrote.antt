@@ -4,12 +4,13 @@ use Rattle.std.proofs.Common.{Fits, w8, arith, ap, ap₂, sym, subst, ◌∙◌,
 use Rattle.std.proofs.lemmas.Slice.{take-put_mid, drop-put_mid}
 use borrow.Rule.Slice.PartMut.{put_mid}
 use Rattle.std.proofs.Math.Path.{refl}
+use Rattle.std.proofs.Math.Seq.{take-add}
 use Rattle.std.proofs.lemmas.Nat.{be_bytes_4}
 use Rattle.std.specs.Int.{to_be_bytes, w32}
 use Rattle.writing.specs.declared.Arrays.{Arrays}
 use Rattle.writing.specs.declared.numbers.Out.{Out}
 use Rattle.layout.specs.Filling.{stored}
-use Rattle.writing.specs.Puts.{Puts, parts, stored_cut, stored-fits, puts_none, puts-both, puts-more, puts-begin}
+use Rattle.writing.specs.Puts.{Puts, parts, stored_cut, stored-fits, puts_none, puts-both, puts-more, puts-begin, puts-length}
 use Rattle.writing.specs.Cells.{TaskArrays, byte_of, pair_of, quad_of, letters_in}
 
 -- some bytes were put: into the same buffer, the place of the next byte then behind them
@@ -53,6 +54,25 @@ wrote_whole l at n bytes part fits size same =
           ∙ append_assoc (take at l) bytes (drop (at + length bytes) l) ∙ sym (stored-fits l at bytes fits);
       goes = omega arith;
     }
+
+-- where the bytes have room: the place behind them, in a buffer as long as before
+pub wrote-room : {l m : Out} {bytes : List ℕ} → Wrote l bytes m → l.at + length bytes ≤ length l.buffer.now → (m.at ≡ l.at + length bytes) × (length m.buffer.now ≡ length l.buffer.now)
+wrote-room p fits = (omega (arith, p.puts.goes), puts-length p.puts)
+
+-- some bytes part by part: the bytes up to the next place
+pub wrote_next : {l m n : Out} (bytes : List ℕ) (i j : ℕ) → i ≤ j → Wrote l (take i bytes) m → Wrote m (take (j - i) (drop i bytes)) n → Wrote l (take j bytes) n
+wrote_next bytes i j h p q =
+    let e : i + (j - i) ≡ j = omega arith in
+    wrote_as (sym (take-add i (j - i) bytes) ∙ ap (λ (k : ℕ). take k bytes) e) (wrote-both p q)
+
+pub part-length : (bytes : List ℕ) (i j : ℕ) → i ≤ j → j ≤ length bytes → length (take (j - i) (drop i bytes)) ≡ j - i
+part-length bytes i j h fits = length-take-le (j - i) (drop i bytes) (omega (arith, length-drop i bytes))
+
+-- and one byte more
+pub wrote_one : {l m n : Out} (bytes : List ℕ) (k : ℕ) → k < length bytes → Wrote l (take k bytes) m → Wrote m (get_or bytes k 0 ∷ []) n → Wrote l (take (k + 1) bytes) n
+wrote_one bytes k held p q =
+    let e : k + 1 ≡ suc k = omega arith in
+    wrote_as (sym (ap (λ (n : ℕ). take n bytes) e ∙ take-suc bytes k 0 held)) (wrote-both p q)
 
 -- as many bytes as a buffer has room for
 pub wrote_cut : {l m : List ℕ} {at next room : ℕ} (bytes : List ℕ) → room ≡ length l - at → room ≤ length bytes → Puts l at (take room bytes) m next → Puts l at bytes m next

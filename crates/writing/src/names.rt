@@ -8,6 +8,7 @@ use tables::function;
 
 impl Out<'_> {
     // The name in the row of 33 cells that begins at `row`.
+    #[inline(always)]
     pub(crate) fn name(&mut self, names: &[u8], row: usize)
         requires { row < 2 ^ 40 }
         ensures { Wrote self.old (name_in names.now row) self.new }
@@ -16,13 +17,14 @@ impl Out<'_> {
         let (first, end) = (row + 1, row + 1 + size as usize);
         self.put(&[size]);
         if end <= names.len() {
-            self.put(&names[first..end]);
+            self.put_letters(&names[first..end]);
         } else {
             self.cut_name(names, first, size as usize);
         }
     }
 
     // Letters of a name that may pass the end of the cells.
+    #[inline(always)]
     fn cut_name(&mut self, names: &[u8], first: usize, many: usize)
         requires { first < 2 ^ 41 × many < 256 }
         ensures { Wrote self.old (letters_in names.now first many) self.new }
@@ -33,14 +35,15 @@ impl Out<'_> {
     }
 
     // The length of a function's name, and the name.
+    #[inline(always)]
     pub(crate) fn function(&mut self, number: u32)
         ensures { Wrote self.old (function_in number) self.new }
     {
         match number {
-            function::IS_TRUE => self.put(b"\x06isTrue"),
-            function::IS_FALSE => self.put(b"\x07isFalse"),
-            function::LESS => self.put(b"\x04less"),
-            _ => self.put(b"\x05equal"),
+            function::IS_TRUE => self.put_letters(b"\x06isTrue"),
+            function::IS_FALSE => self.put_letters(b"\x07isFalse"),
+            function::LESS => self.put_letters(b"\x04less"),
+            _ => self.put_letters(b"\x05equal"),
         }
     }
 

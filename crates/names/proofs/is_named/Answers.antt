@@ -2,7 +2,6 @@ use borrow.Author.Rules.{rules}
 use Rattle.names.specs.Index.{Letters}
 use Rattle.names.specs.Tables.{row_at}
 use Rattle.names.specs.Hashing.{named-short}
-use Rattle.scan.specs.Slices.{same-pointwise}
 use Rattle.std.proofs.Common.{sym, ◌∙◌}
 use Rattle.names.proofs.is_named.Goals as goal
 
@@ -18,4 +17,4 @@ returns-then-word-le8 c t k =
 
 pub returns-else-word-le8 : goal.returns-else-word-le8
 unfolding row_at
-returns-else-word-le8 c t k = rw c.part-name.ensures at (sym (same-pointwise c.part-name.result.now c.args.word.now) ∙ sym c.eq.ensures ∙ t)
+returns-else-word-le8 c t k = sym c.same.ensures ∙ t

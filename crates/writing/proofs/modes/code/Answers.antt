@@ -1,15 +1,12 @@
-use Rattle.std.proofs.Common.{arith, ◌≡◌, min}
-use Rattle.writing.specs.Wrote.{wrote-both, wrote_of, wrote-begin, wrote-more}
+use Rattle.writing.specs.Wrote.{wrote-both, wrote_of}
 use Rattle.writing.specs.Puts.{parts}
 use Rattle.writing.specs.Cells.{code_in}
 use Rattle.writing.proofs.modes.code.Goals as goal
 
-pub loop-k-init : goal.loop-k-init
-loop-k-init c = wrote-begin _ _
-
-pub loop-k-preserved : goal.loop-k-preserved
-loop-k-preserved c = wrote-more _ _ c.loop-k.invariant c.instruction.ensures
-
-pub returns : goal.returns
+pub returns-then-has_room : goal.returns-then-has_room
 unfolding code_in
-returns c = let e : c.loop-k.k ≡ min c.args.t.now.counts.instructions 4096 = omega arith in wrote-both c.pair.ensures (wrote_of (parts _) e c.loop-k.invariant)
+returns-then-has_room c = wrote-both c.pair.ensures (wrote_of (parts _) c.few-many.ensures c.whole_code.ensures)
+
+pub returns-else-many-t : goal.returns-else-many-t
+unfolding code_in
+returns-else-many-t c = wrote-both c.pair.ensures (wrote_of (parts _) c.few-many.ensures c.cut_code.ensures)

@@ -5,6 +5,6 @@ use Rattle.emit.proofs.listing.Listing.put.Goals.{then-self-lt4096, else-self-lt
 pub returns-clause-code : goal.returns-clause-code
 returns-clause-code c = elim c.if-self-lt4096.branch [
   | then-self-lt4096 w ↦
-      rw w.self-is (rw (w.put32-then-self-lt4096-2.ensures, w.put32-then-self-lt4096.ensures, w.put32.ensures) (stored_row _ _ _ _ _ w.if-self-lt4096.true))
+      rw w.self-is (rw w.put_row.ensures (stored_row _ _ _ _ _ w.if-self-lt4096.true))
   | else-self-lt4096 w ↦ rw w.self-is (stored-beyond _ _ _ _ _ w.if-self-lt4096.false)
 ]

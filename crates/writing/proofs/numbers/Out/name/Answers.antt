@@ -13,7 +13,7 @@ returns-then-end-names c =
     let many : first + size - first ≡ size = omega arith in
     let held = letters_held names first size c.if-end-names.true c.type_inv.names in
     wrote-both (wrote_of (λ n. n ∷ []) low c.put.ensures)
-    (wrote_as (ap (λ n. take n (drop first names)) many ∙ held ∙ ap (letters_in names first) c.at8-size.ensures) c.put-then-end-names.ensures)
+    (wrote_as (ap (λ n. take n (drop first names)) many ∙ held ∙ ap (letters_in names first) c.at8-size.ensures) c.put_letters.ensures)
 
 pub returns-else-end-names : goal.returns-else-end-names
 unfolding name_in byte_of

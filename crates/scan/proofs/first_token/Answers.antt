@@ -1,6 +1,6 @@
 use mathlib.Core.Path.{refl, sym, ◌∙◌}
 use Rattle.text.specs.StartsLaws as law
-use Rattle.scan.proofs.token.Goals as goal
+use Rattle.scan.proofs.first_token.Goals as goal
 
 pub returns-in-Byte : goal.returns-in-Byte
 returns-in-Byte c =
