@@ -1,7 +1,7 @@
 // The lines of an input, one after the other, out of a buffer that is filled as they are used.
 ghost use Rattle.std.specs.Prelude.{◌≡◌, ◌≤◌, length};
 
-use std::io::Read;
+use std::io::{self, Read};
 
 // What is held of the input stands from one place to another.
 #[derive(Drop)]
@@ -15,7 +15,7 @@ pub struct Lines<'a> {
     ghost inside: { to ≤ length buffer.now },
 }
 
-// A line without its LF; one longer than the buffer, told once; or the end of the input. A read that fails is its end.
+// A line without its LF; one as long as the buffer or longer, told once; or the end of the input. A read that fails is its end.
 #[derive(Clone, Copy)]
 pub enum Found<'a> {
     Line(&'a [u8]),
@@ -33,12 +33,13 @@ enum Step {
 }
 
 impl<'a> Lines<'a> {
-    ghost use Rattle.std.specs.Prelude.{◌<◌, ◌++◌, List, ℕ, [], false, MatchBool, if◌then◌else◌, ◌==◌, position};
+    ghost use Rattle.std.specs.Prelude.{◌<◌, ◌++◌, List, ℕ, [], true, false, Option, MatchBool, if◌then◌else◌, ◌==◌, position};
     ghost use Rattle.std.specs.Borrow.{sem};
     ghost use Rattle.std.specs.Io.KnownBytes.{Consumes};
     ghost use Rattle.lines.specs.declared.input.Found.{Found};
-    ghost use Rattle.lines.specs.Inputs.{held, Unbroken, Looks, IsWithin, Shows, IsLine, Gives, GivesOnce};
+    ghost use Rattle.lines.specs.Inputs.{held, Unbroken, Looks, IsWithin, Shows, IsLine, Gives, Advances, Answers, GivesOnce};
 
+    // The lines of an input of which nothing is read yet.
     pub fn new(buffer: &'a mut [u8]) -> Lines<'a>
         ensures same_reference { result.buffer.ghost_name ≡ buffer.entry.ghost_name }
         ensures same { result.buffer.now ≡ buffer.old }
@@ -57,9 +58,10 @@ impl<'a> Lines<'a> {
     // The next line; the last needs no LF.
     pub fn next<R: Read>(&mut self, input: &mut R) -> Found<'_>
         ensures line { IsLine (length self.old.buffer.now) result }
+        ensures answers { Answers (R.remaining input.old) (R.remaining input.new) self.old result }
         ensures* gives { sem 𝓛 (GivesOnce (R.remaining input.old) (R.remaining input.new) self.entry result) }
     {
-        let step = self.advance(input);
+        let step = self.find(input);
         self.found(step)
     }
 
@@ -75,11 +77,21 @@ impl<'a> Lines<'a> {
         }
     }
 
-    // Looks and reads until something is found.
-    fn advance<R: Read>(&mut self, input: &mut R) -> Step
+    // What is found; where more was wanted too often, in what is held alone.
+    fn find<R: Read>(&mut self, input: &mut R) -> Step
         ensures within { IsWithin self.new result }
         ensures gives { (found : Found) → Shows self.new result found
             → Gives (R.remaining input.old) (R.remaining input.new) self.old self.new found }
+    {
+        match self.advance(input) {
+            Step::More => self.last(),
+            found => found,
+        }
+    }
+
+    // Looks and reads until something is found, 2^64 - 1 times at most.
+    fn advance<R: Read>(&mut self, input: &mut R) -> Step
+        ensures { Advances (R.remaining input.old) (R.remaining input.new) self.old self.new result }
     {
         for _ in 0..u64::MAX {
             match self.step(input) {
@@ -87,7 +99,20 @@ impl<'a> Lines<'a> {
                 found => return found,
             }
         }
-        Step::End
+        Step::More
+    }
+
+    // Looks at what is held as at the end of the input.
+    fn last(&mut self) -> Step
+        ensures within { IsWithin self.new result }
+        ensures gives { (input : Option (List ℕ)) (found : Found) → Shows self.new result found
+            → Gives input input self.old self.new found }
+    {
+        let mut nothing = io::empty();
+        match self.step(&mut nothing) {
+            Step::More => self.step(&mut nothing),
+            found => found,
+        }
     }
 
     fn step<R: Read>(&mut self, input: &mut R) -> Step
@@ -99,7 +124,7 @@ impl<'a> Lines<'a> {
         match self.first_end() {
             Some(size) => {
                 self.from = from + size + 1;
-                self.unless_over(Step::Line(from, from + size), false)
+                self.unless_over(Step::Line(from, from + size))
             }
             None => self.more(input),
         }
@@ -119,39 +144,68 @@ impl<'a> Lines<'a> {
         ensures room { length self.new.buffer.now ≡ length self.old.buffer.now }
         ensures looks { Looks (R.remaining input.old) (R.remaining input.new) self.old self.new result }
     {
-        self.shift();
+        self.make_room();
         let size = self.to;
         if size == self.buffer.len() {
-            self.clear();
-            return self.unless_over(Step::Long, true);
+            return self.full();
         }
         if self.fill(input) {
             return Step::More;
         }
         self.clear();
-        if self.over || size == 0 {
+        if size == 0 {
             return Step::End;
         }
         Step::Line(0, size)
     }
 
-    // What was found, unless it is passed over; whether what is held then is passed over.
-    fn unless_over(&mut self, found: Step, over: bool) -> Step
+    // What is held moves to the front, unless it is passed over.
+    fn make_room(&mut self)
+        ensures same_reference { self.new.buffer.ghost_name ≡ self.old.buffer.ghost_name }
+        ensures room { length self.new.buffer.now ≡ length self.old.buffer.now }
+        ensures front { self.new.from ≡ 0 }
+        ensures held { held self.new ≡ (if self.old.over then [] else held self.old) }
+        ensures over { self.new.over ≡ self.old.over }
+    {
+        if self.over {
+            self.clear();
+        } else {
+            self.shift();
+        }
+    }
+
+    // A line too long is told once; behind it only a buffer of no bytes is full.
+    fn full(&mut self) -> Step
+        ensures same_reference { self.new.buffer.ghost_name ≡ self.old.buffer.ghost_name }
+        ensures same { self.new.buffer.now ≡ self.old.buffer.now }
+        ensures none { held self.new ≡ [] }
+        ensures over { self.new.over ≡ true }
+        ensures found { result ≡ (if self.old.over then Step.End else Step.Long) }
+    {
+        self.clear();
+        let passed = self.over;
+        self.over = true;
+        if passed { Step::End } else { Step::Long }
+    }
+
+    // A line, unless it is passed over; what is held then is not.
+    fn unless_over(&mut self, line: Step) -> Step
         ensures same_reference { self.new.buffer.ghost_name ≡ self.old.buffer.ghost_name }
         ensures same { self.new.buffer.now ≡ self.old.buffer.now }
         ensures held { held self.new ≡ held self.old }
-        ensures over { self.new.over ≡ over }
-        ensures found { result ≡ (if self.old.over then Step.More else found) }
+        ensures over { self.new.over ≡ false }
+        ensures found { result ≡ (if self.old.over then Step.More else line) }
     {
         let passed = self.over;
-        self.over = over;
-        if passed { Step::More } else { found }
+        self.over = false;
+        if passed { Step::More } else { line }
     }
 
     // Nothing is held.
     fn clear(&mut self)
         ensures same_reference { self.new.buffer.ghost_name ≡ self.old.buffer.ghost_name }
         ensures same { self.new.buffer.now ≡ self.old.buffer.now }
+        ensures front { self.new.from ≡ 0 }
         ensures none { held self.new ≡ [] }
         ensures over { self.new.over ≡ self.old.over }
     {

@@ -1,5 +1,5 @@
-// The words of a request line and of its answer: bytes in hexadecimal, numbers, values (docs/CONSOLE.md).
-// Promises: each answer, and what each lent buffer then holds, is given by one definition, whatever the line says.
+// The lines of an input, and the words of a request line and of its answer: bytes in hexadecimal, numbers, values (docs/CONSOLE.md).
+// Promises: each answer, and what each lent buffer then holds, is given by one definition, whatever the line says; the lines of an input, by the bytes that are read.
 // Builds on scan and cells.
 #![tactic(auto)]
 

@@ -4,4 +4,6 @@ pub mod Machines
 pub mod Arrays
 pub mod Steps
 pub mod Words
+pub mod Inputs
+pub mod Cells
 pub mod References

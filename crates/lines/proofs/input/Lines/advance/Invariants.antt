@@ -1,4 +1,4 @@
-use Rattle.lines.specs.InputsLaws.{Going}
+use Rattle.lines.specs.Inputs.{Going}
 use Rattle.lines.proofs.input.Lines.advance.Given as goal
 
 abbrev pub invariant-loop : goal.invariant-loop
